@@ -1,0 +1,11 @@
+pub mod Invariance
+pub mod Stacks
+pub mod Reordering
+pub mod Asked
+pub mod Knowing
+pub mod Agreement
+pub mod Listing
+pub mod Finite
+pub mod Decision
+pub mod Openings
+pub mod Rules

@@ -1,0 +1,4 @@
+pub mod Formulas
+pub mod Tables
+pub mod Measures
+pub mod Check
