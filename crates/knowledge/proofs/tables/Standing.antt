@@ -101,26 +101,6 @@ next-decides p t i ms last s h =
     ∙ (first-decides p (depths i t) r (drop (i + 1) t)
     ∙ (λ j. outcome p (n j) (d j) (m j) (drop (i + 1) t) (record-fault p (n j) (d j) (r .kind)))))
 
--- a faulty record is the first one
-pub refuses : (p : Terms) (t : Table) (i : ℕ) (ms : List Measure) (last m : Measure) (c : Cause) → Stands p t i ms last → i < length t
-    → m ≡ measure-of (take i ms) (getD t i none) → record-fault p i (m .depth) (getD t i none .kind) ≡ Some c
-    → first-fault p [] t ≡ Some (in-table c i)
-refuses p t i ms last m c s h e f =
-    let g : record-fault p i (measure-of (take i ms) (getD t i none) .depth) (getD t i none .kind) ≡ Some c = rw e at f in
-    next-decides p t i ms last s h
-    ∙ ap (outcome p i (measure-of (take i ms) (getD t i none) .depth) (depths (i + 1) t) (drop (i + 1) t)) g
-
--- at the end
-pub ends : (p : Terms) (t : Table) (i : ℕ) (ms : List Measure) (last : Measure) → Stands p t i ms last → length t ≤ i → 0 < length t
-    → (first-fault p [] t ≡ None) × Gauge (formula t) (depth t) last
-unfolding first-fault
-ends p t i ms last s h l =
-    let e : take i t ≡ t = take-all i t h in
-    (
-      sym (s .rest) ∙ at-drop-all (first-fault p (depths i t)) t i h,
-      subst (λ (u : Table). Gauge (formula u) (depth u) last) e (s .latest (omega arith)),
-    )
-
 -- what holds of each place of a list, and of one value more
 each-push : {X : Type 0} (P : X → Type 0) (xs : List X) (x d : X) → ((k : ℕ) → P (getD xs k d)) → P x → (k : ℕ) → P (getD (xs ++ (x ∷ [])) k d)
 each-push P [] x d h p zero = p
@@ -156,11 +136,12 @@ not-deep p place d r e =
     omega (arith, ltb-false 12 d c)
 
 -- the next record is measured and without fault
-pub goes-on : (p : Terms) (t : Table) (i : ℕ) (ms : List Measure) (last m : Measure) → Stands p t i ms last → i < length t → i < 256
-    → m ≡ measure-of (take i ms) (getD t i none) → record-fault p i (m .depth) (getD t i none .kind) ≡ None
+pub goes-on : (p : Terms) (t : Table) (i : ℕ) (ms : List Measure) (last m : Measure) (o : Option Cause) → Stands p t i ms last → i < length t → i < 256
+    → m ≡ measure-of (take i ms) (getD t i none) → o ≡ record-fault p i (m .depth) (getD t i none .kind) → o ≡ None
     → Stands p t (i + 1) (set ms i m) m
-goes-on p t i ms last m s h l e f =
+goes-on p t i ms last m o s h l e g d =
     let r : Record = getD t i none in
+    let f : record-fault p i (m .depth) (r .kind) ≡ None = sym g ∙ d in
     let size = s .size in
     let more : take (i + 1) (set ms i m) ≡ take i ms ++ (m ∷ []) = take-more-set ms i m (omega arith) in
     let table : take (i + 1) t ≡ take i t ++ (r ∷ []) = take-more t i none h in
@@ -183,12 +164,33 @@ goes-on p t i ms last m s h l e f =
           ∙ ap (outcome p i (measure-of (take i ms) r .depth) (depths (i + 1) t) (drop (i + 1) t)) none-wrong);
     }
 
--- a table of a bad length
-pub checked-length : (p : Terms) (t : Table) → between 1 256 (length t) ≡ false → check p t ≡ Some (in-table Nodes 0)
+-- the check refuses a table of a bad length
+pub refuses-length : (p : Terms) (t : Table) (f : Fault) → between 1 256 (length t) ≡ false → f ≡ in-table Nodes 0 → check p t ≡ Some f
 unfolding check
-checked-length p t e = rw e
+refuses-length p t f e g = rw (e, g)
 
--- a table of a good length
-pub checked-records : (p : Terms) (t : Table) → between 1 256 (length t) ≡ true → check p t ≡ first-fault p [] t
+-- the check of a table of a good length goes by its records
+checked-records : (p : Terms) (t : Table) → between 1 256 (length t) ≡ true → check p t ≡ first-fault p [] t
 unfolding check
 checked-records p t e = rw e
+
+-- the check refuses the first faulty record
+pub refuses-record : (p : Terms) (t : Table) (i : ℕ) (ms : List Measure) (last m : Measure) (o : Option Cause) (c : Cause) (f : Fault)
+    → between 1 256 (length t) ≡ true → Stands p t i ms last → i < length t → m ≡ measure-of (take i ms) (getD t i none)
+    → o ≡ record-fault p i (m .depth) (getD t i none .kind) → o ≡ Some c → f ≡ in-table c i → check p t ≡ Some f
+refuses-record p t i ms last m o c f b s h e g d n =
+    let w : record-fault p i (measure-of (take i ms) (getD t i none) .depth) (getD t i none .kind) ≡ Some c = rw e at (sym g ∙ d) in
+    checked-records p t b
+    ∙ (next-decides p t i ms last s h
+    ∙ (ap (outcome p i (measure-of (take i ms) (getD t i none) .depth) (depths (i + 1) t) (drop (i + 1) t)) w ∙ ap Some (sym n)))
+
+-- at the end the check passes
+pub ends : (p : Terms) (t : Table) (i : ℕ) (ms : List Measure) (last : Measure) → between 1 256 (length t) ≡ true
+    → Stands p t i ms last → length t ≤ i → 0 < length t → (check p t ≡ None) × Gauge (formula t) (depth t) last
+unfolding first-fault
+ends p t i ms last b s h l =
+    let e : take i t ≡ t = take-all i t h in
+    (
+      checked-records p t b ∙ (sym (s .rest) ∙ at-drop-all (first-fault p (depths i t)) t i h),
+      subst (λ (u : Table). Gauge (formula u) (depth u) last) e (s .latest (omega arith)),
+    )

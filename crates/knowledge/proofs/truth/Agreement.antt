@@ -24,7 +24,7 @@ one-unfolds : (o : Opening) (ns : List Notice) (c : Call) (r : Answer) → Allow
     → Holds (after-all (situation o ns) (added (is-taken r) c)) q ↔ Holds (situation o ns) (stacked (added (is-taken r) c) q)
 one-unfolds o ns c r (faulty f e) q = Iff·rfl
 one-unfolds o ns c r (crowded e x) q = Iff·rfl
-one-unfolds o ns c r (filled sheet e x y) q = Iff·rfl
+one-unfolds o ns c r (filled sheet s e x y) q = Iff·rfl
 one-unfolds o ns (posts t) r (answered true e x h) q = after-before (situation o ns) (posted (formula t)) q (h .0 tt)
 one-unfolds o ns (posts t) r (answered false e x h) q = Iff·rfl
 one-unfolds o ns (tells g t) r (answered true e x h) q = after-before (situation o ns) (told-to g (formula t)) q (h .0 tt)

@@ -66,7 +66,7 @@ open-answer-only : (o : Opening) (given : List ℕ) (r : Answer) → ¬ Unsure o
 open-answer-only o given r sure (law-faulty f e) = rw e
 open-answer-only o given r sure (fact-unknown e k) = rw (e, k)
 open-answer-only o given r sure (too-narrow e k n) = rw (e, k, passes (is-narrow o) (T-is-narrow o .1 n))
-open-answer-only o given r sure (fills sheet e k n d) = absurd (sure d)
+open-answer-only o given r sure (fills sheet s e k n d) = absurd (sure d)
 open-answer-only o given r sure (breaks-law e k n b) =
     let l = fails (keeps-law (o .setting) (o .facts)) (λ t. b (keeps-law-decides (o .setting) (o .facts) .0 t)) in
     rw (e, k, fails (is-narrow o) (λ t. n (T-is-narrow o .0 t)), l)

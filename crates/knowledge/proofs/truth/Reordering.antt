@@ -64,7 +64,7 @@ decided : (o : Opening) (ns : List Notice) (c : Call) (r : Answer) → T (is-not
     → Decided (o .setting) (o .facts) c (is-taken r)
 decided o ns c r n (faulty f e) p = ((λ x. absurd x, λ k. some-not-none (fault-of (o .setting) c) f e (k .0)), tt)
 decided o ns c r n (crowded e x) p = absurd (p .not-marks refl)
-decided o ns c r n (filled sheet e x y) p = absurd (p .not-full sheet refl)
+decided o ns c r n (filled sheet s e x y) p = absurd (p .not-full sheet refl)
 decided o ns c r n (answered holds e x h) p =
     let q : Silent (formula (table-of c)) = p .no-knowledge (faultless-checks (o .setting) c e) in
     let t = Iff·trans h (silent-truth o ns (formula (table-of c)) q) in

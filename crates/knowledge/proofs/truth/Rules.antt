@@ -68,7 +68,7 @@ calls-answered o ns c = (answer-to o ns c, answer-allowed o ns c)
 answer-only : (o : Opening) (ns : List Notice) (c : Call) (r : Answer) → ¬ Doubtful o ns (marks-needed c) → Allowed o ns c r → r ≡ answer-to o ns c
 answer-only o ns c r sure (faulty f e) = rw e
 answer-only o ns c r sure (crowded e x) = rw (e, passes (is-crowded o ns (marks-needed c)) (T-is-crowded o ns (marks-needed c) .1 x))
-answer-only o ns c r sure (filled sheet e x d) = absurd (sure d)
+answer-only o ns c r sure (filled sheet s e x d) = absurd (sure d)
 answer-only o ns c r sure (answered holds e x h) =
     let same : holds ≡ is-true o ns c = same-test holds (is-true o ns c) (Iff·trans h (Iff·symm (T-is-true o ns c))) in
     rw (e, fails (is-crowded o ns (marks-needed c)) (λ t. x (T-is-crowded o ns (marks-needed c) .0 t)), same)

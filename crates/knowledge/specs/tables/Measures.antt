@@ -76,3 +76,8 @@ Surveyed verdict t (Err f) = verdict ≡ Some f
 abbrev pub Mentions : Option Fault → Table → Result Bool Fault → Type 0
 Mentions verdict t (Ok says) = (verdict ≡ None) × (T says ↔ Mentions-knowledge (formula t))
 Mentions verdict t (Err f) = verdict ≡ Some f
+
+-- how the question ends whether a notice may change places: it may if it does not mention knowledge
+abbrev pub Movable : Option Fault → Table → Result Bool Fault → Type 0
+Movable verdict t (Ok says) = (verdict ≡ None) × (T says ↔ ¬ Mentions-knowledge (formula t))
+Movable verdict t (Err f) = verdict ≡ Some f

@@ -67,8 +67,8 @@ pub data Open-answered (o : Opening) (given : List ℕ) : Answer → Type 0 wher
   fact-unknown : law-fault o ≡ None → all-known o given ≡ false → Open-answered o given (refused (in-matter Fact))
   -- the board has too few places
   too-narrow : law-fault o ≡ None → all-known o given ≡ true → Narrow o → Open-answered o given (refused (in-matter Width))
-  -- the board fills, which it does only beyond what it can surely hold; this may come in the place of the two that follow
-  fills : (sheet : ℕ) → law-fault o ≡ None → all-known o given ≡ true → ¬ Narrow o → Unsure o
+  -- the board fills, which it does only beyond what it can surely hold; this may come in the place of the two that follow, and which sheet is told is free
+  fills : (sheet : ℕ) → sheet < 64 → law-fault o ≡ None → all-known o given ≡ true → ¬ Narrow o → Unsure o
       → Open-answered o given (refused (in-board Full sheet))
   -- the facts break the law
   breaks-law : law-fault o ≡ None → all-known o given ≡ true → ¬ Narrow o → ¬ Keeps-law (o .setting) (o .facts)
@@ -132,8 +132,8 @@ pub data Allowed (o : Opening) (ns : List Notice) (c : Call) : Answer → Type 0
   faulty : (f : Fault) → fault-of (o .setting) c ≡ Some f → Allowed o ns c (refused f)
   -- there is no room for the marks
   crowded : fault-of (o .setting) c ≡ None → Crowded o ns (marks-needed c) → Allowed o ns c (refused (in-matter Marks))
-  -- the board fills, which it does only beyond what it can surely hold; this may come in the place of what follows
-  filled : (sheet : ℕ) → fault-of (o .setting) c ≡ None → ¬ Crowded o ns (marks-needed c) → Doubtful o ns (marks-needed c)
+  -- the board fills, which it does only beyond what it can surely hold; this may come in the place of what follows, and which sheet is told is free
+  filled : (sheet : ℕ) → sheet < 64 → fault-of (o .setting) c ≡ None → ¬ Crowded o ns (marks-needed c) → Doubtful o ns (marks-needed c)
       → Allowed o ns c (refused (in-board Full sheet))
   -- the formula is true, or it is not
   answered : (holds : Bool) → fault-of (o .setting) c ≡ None → ¬ Crowded o ns (marks-needed c)
