@@ -1,5 +1,5 @@
 -- Equivalences, and what an option is not.
-use mathlib.Core.Bool.{Bool, true, false}
+use mathlib.Core.Bool.{Bool, true, false, cond}
 use mathlib.Core.Logic.{_⊎_, inl, inr, _↔_, Iff·not, Iff·and}
 use mathlib.Core.Path.{_≡_, refl}
 use mathlib.Mathlib.Logic.Basic.{Iff·imp, Iff·iff}
@@ -44,3 +44,8 @@ fails false h = refl
 -- an option is not both something and nothing
 pub some-not-none : {A B : Type 0} (o : Option A) (x : A) → o ≡ Some x → o ≡ None → B
 some-not-none o x p q = let z : _≡_ {A = ℕ} 0 1 = cc in absurd (omega arith)
+
+-- a test that chose nothing failed
+pub failed : {A : Type 0} (b : Bool) (x : A) (o : Option A) → cond b (Some x) o ≡ None → (b ≡ false) × (o ≡ None)
+failed true x o e = some-not-none (Some x) x refl e
+failed false x o e = (refl, e)

@@ -1,3 +1,4 @@
 pub mod Records
 pub mod Surveying
 pub mod Standing
+pub mod Laws

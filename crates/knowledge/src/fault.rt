@@ -2,6 +2,7 @@
 ghost use mathlib.Core.Path.{_≡_};
 ghost use Rattle.std.specs.declared.option.Option.the-variants.{Some};
 ghost use Rattle.knowledge.specs.Faults.{number, letter, written, in-matter, in-table};
+use std::error::Error;
 use std::fmt;
 
 // Why a call was refused.
@@ -122,3 +123,5 @@ pub impl fmt::Display for Fault as FaultDisplay {
         write!(f, "refused {number} {letter} {place}")
     }
 }
+
+pub impl Error for Fault as FaultError {}

@@ -18,8 +18,8 @@ use crate::table::Kind;
 use crate::table::Record;
 
 // Whether a record names a fact that the plan lacks.
-fn bad_fact(plan: &Plan, in_law: bool, kind: Kind) -> bool
-    ensures { λ r. ⌜ r ≡ bad-fact (terms-of «in_law» (now (plan .entry))) kind ⌝ }
+fn bad_fact(plan: &Plan, kind: Kind) -> bool
+    ensures { λ r. ⌜ r ≡ bad-fact (now (plan .entry) .facts) kind ⌝ }
 {
     match kind {
         Kind::Fact { number } => number < 1 || number > plan.facts(),
@@ -28,8 +28,8 @@ fn bad_fact(plan: &Plan, in_law: bool, kind: Kind) -> bool
 }
 
 // Whether a record names a party that the plan lacks, or a group that is empty or has such a member.
-fn bad_party(plan: &Plan, in_law: bool, kind: Kind) -> bool
-    ensures { λ r. ⌜ r ≡ bad-party (terms-of «in_law» (now (plan .entry))) kind ⌝ }
+fn bad_party(plan: &Plan, kind: Kind) -> bool
+    ensures { λ r. ⌜ r ≡ bad-party (now (plan .entry) .count) kind ⌝ }
 {
     match kind {
         Kind::Knows { party, .. } | Kind::KnowsWhether { party, .. } => party >= plan.parties(),
@@ -66,9 +66,9 @@ fn bad_child(place: usize, kind: Kind) -> bool
 fn fault_in(plan: &Plan, in_law: bool, place: usize, depth: usize, kind: Kind) -> Option<Cause>
     ensures { λ r. ⌜ r ≡ record-fault (terms-of «in_law» (now (plan .entry))) place depth kind ⌝ }
 {
-    if bad_fact(plan, in_law, kind) {
+    if bad_fact(plan, kind) {
         Some(Cause::Fact)
-    } else if bad_party(plan, in_law, kind) {
+    } else if bad_party(plan, kind) {
         Some(Cause::Party)
     } else if depth > 12 {
         Some(Cause::Deep)

@@ -23,7 +23,7 @@ use Rattle.knowledge.specs.tables.Formulas.{Formula, bottom}
 use Rattle.knowledge.specs.tables.Measures.{unmeasured, measure-of, Gauge, Gauges, Small}
 use Rattle.knowledge.specs.Sets.{between}
 use Rattle.knowledge.specs.tables.Tables.{Table, none, formula, formula-of, depth, depth-of, in-order}
-use Rattle.knowledge.proofs.Logic.{some-not-none}
+use Rattle.knowledge.proofs.Logic.{failed}
 use Rattle.knowledge.proofs.tables.Records.{in-order-length, in-order-push, formula-push, depth-push}
 use Rattle.knowledge.proofs.tables.Surveying.{gauged, nests-few}
 
@@ -66,19 +66,19 @@ next-gauged : (p : Terms) (t : Table) (i : ℕ) (ms : List Measure) (last : Meas
     → Gauge (formula-of (formulas i t) (getD t i none)) (depth-of (depths i t) (getD t i none)) (measure-of (take i ms) (getD t i none))
 next-gauged p t i ms last s = gauged (formulas i t) (depths i t) (take i ms) (getD t i none) (s .gauges)
 
--- what a record decides, by its place, its depth, the depths up to it and the records that follow
-abbrev outcome : Terms → ℕ → ℕ → List ℕ → Table → Option Cause → Option Fault
-outcome p place d ds rs (Some c) = Some (in-table c place)
-outcome p place d ds rs None = first-fault p ds rs
+-- what a record decides, by its place, the depths up to it and the records that follow
+abbrev pub outcome : Terms → ℕ → List ℕ → Table → Option Cause → Option Fault
+outcome p place ds rs (Some c) = Some (in-table c place)
+outcome p place ds rs None = first-fault p ds rs
 
 -- the first of some records decides, or those after it do
-first-decides : (p : Terms) (ds : List ℕ) (r : Record) (rs : Table)
-    → first-fault p ds (r ∷ rs) ≡ outcome p (length ds) (depth-of ds r) (ds ++ (depth-of ds r ∷ [])) rs (record-fault p (length ds) (depth-of ds r) (r .kind))
+pub first-decides : (p : Terms) (ds : List ℕ) (r : Record) (rs : Table)
+    → first-fault p ds (r ∷ rs) ≡ outcome p (length ds) (ds ++ (depth-of ds r ∷ [])) rs (record-fault p (length ds) (depth-of ds r) (r .kind))
 unfolding first-fault
 first-decides p ds r rs = go (record-fault p (length ds) (depth-of ds r) (r .kind))
   where
     go : (o : Option Cause) → elim o as (λ _. Option Fault) [ Some c ↦ Some (in-table c (length ds)) | None ↦ first-fault p (ds ++ (depth-of ds r ∷ [])) rs ]
-        ≡ outcome p (length ds) (depth-of ds r) (ds ++ (depth-of ds r ∷ [])) rs o
+        ≡ outcome p (length ds) (ds ++ (depth-of ds r ∷ [])) rs o
     go (Some c) = refl
     go None = refl
 
@@ -89,7 +89,7 @@ depths-more i t h = sym (ap (in-order depth-of []) (take-more t i none h) ∙ in
 -- the next record decides, or those after it do
 next-decides : (p : Terms) (t : Table) (i : ℕ) (ms : List Measure) (last : Measure) → Stands p t i ms last → i < length t
     → first-fault p [] t
-    ≡ outcome p i (measure-of (take i ms) (getD t i none) .depth) (depths (i + 1) t) (drop (i + 1) t)
+    ≡ outcome p i (depths (i + 1) t) (drop (i + 1) t)
         (record-fault p i (measure-of (take i ms) (getD t i none) .depth) (getD t i none .kind))
 next-decides p t i ms last s h =
     let r : Record = getD t i none in
@@ -99,7 +99,7 @@ next-decides p t i ms last s h =
     sym (s .rest)
     ∙ (at-drop-more (first-fault p (depths i t)) t i none h
     ∙ (first-decides p (depths i t) r (drop (i + 1) t)
-    ∙ (λ j. outcome p (n j) (d j) (m j) (drop (i + 1) t) (record-fault p (n j) (d j) (r .kind)))))
+    ∙ (λ j. outcome p (n j) (m j) (drop (i + 1) t) (record-fault p (n j) (d j) (r .kind)))))
 
 -- what holds of each place of a list, and of one value more
 each-push : {X : Type 0} (P : X → Type 0) (xs : List X) (x d : X) → ((k : ℕ) → P (getD xs k d)) → P x → (k : ℕ) → P (getD (xs ++ (x ∷ [])) k d)
@@ -122,16 +122,11 @@ gauges-push (x ∷ xs) [] [] f d m e n g h k = absurd (omega arith)
 gauges-push (x ∷ xs) [] (z ∷ zs) f d m e n g h k = absurd (omega arith)
 gauges-push (x ∷ xs) (y ∷ ys) [] f d m e n g h k = absurd (omega arith)
 
--- a test that chose nothing failed
-failed : {A : Type 0} (b : Bool) (x : A) (o : Option A) → cond b (Some x) o ≡ None → (b ≡ false) × (o ≡ None)
-failed true x o e = some-not-none (Some x) x refl e
-failed false x o e = (refl, e)
-
 -- a record without fault is not too deep
 not-deep : (p : Terms) (place d : ℕ) (r : Record) → record-fault p place d (r .kind) ≡ None → d ≤ 12
 not-deep p place d r e =
-    let a = failed (bad-fact p (r .kind)) _ _ e in
-    let b = failed (bad-party p (r .kind)) _ _ (a .1) in
+    let a = failed (bad-fact (p .facts) (r .kind)) _ _ e in
+    let b = failed (bad-party (p .parties) (r .kind)) _ _ (a .1) in
     let c : ltb 12 d ≡ false = failed (ltb 12 d) _ _ (b .1) .0 in
     omega (arith, ltb-false 12 d c)
 
@@ -161,7 +156,7 @@ goes-on p t i ms last m o s h l e g d =
           (in-order-length formula-of [] (take i t) ∙ omega (arith, length-take-le i t (omega arith))) (in-order-length depth-of [] (take i t) ∙ omega (arith, length-take-le i t (omega arith))) (s .gauges) here)));
       latest = λ _. rw (table, formula-push (take i t) r, depth-push (take i t) r) here;
       rest = sym (next-decides p t i ms last s h
-          ∙ ap (outcome p i (measure-of (take i ms) r .depth) (depths (i + 1) t) (drop (i + 1) t)) none-wrong);
+          ∙ ap (outcome p i (depths (i + 1) t) (drop (i + 1) t)) none-wrong);
     }
 
 -- the check refuses a table of a bad length
@@ -182,7 +177,7 @@ refuses-record p t i ms last m o c f b s h e g d n =
     let w : record-fault p i (measure-of (take i ms) (getD t i none) .depth) (getD t i none .kind) ≡ Some c = rw e at (sym g ∙ d) in
     checked-records p t b
     ∙ (next-decides p t i ms last s h
-    ∙ (ap (outcome p i (measure-of (take i ms) (getD t i none) .depth) (depths (i + 1) t) (drop (i + 1) t)) w ∙ ap Some (sym n)))
+    ∙ (ap (outcome p i (depths (i + 1) t) (drop (i + 1) t)) w ∙ ap Some (sym n)))
 
 -- at the end the check passes
 pub ends : (p : Terms) (t : Table) (i : ℕ) (ms : List Measure) (last : Measure) → between 1 256 (length t) ≡ true

@@ -28,36 +28,36 @@ pub record Terms : Type 0 where
   pub in-law : Bool
 
 -- a fact that the plan lacks
-abbrev pub bad-fact : Terms → Kind → Bool
-bad-fact p Top = false
-bad-fact p Bottom = false
-bad-fact p (Fact n) = Bools.not (between 1 (p .facts) n)
-bad-fact p (Not a) = false
-bad-fact p (Binary c a b) = false
-bad-fact p (Knows i a) = false
-bad-fact p (KnowsWhether i a) = false
-bad-fact p (Shared g a) = false
-bad-fact p (SharedWhether g a) = false
-bad-fact p (Post a b) = false
-bad-fact p (PostWhether a b) = false
-bad-fact p (Tell g a b) = false
-bad-fact p (TellWhether g a b) = false
+abbrev pub bad-fact : ℕ → Kind → Bool
+bad-fact facts Top = false
+bad-fact facts Bottom = false
+bad-fact facts (Fact n) = Bools.not (between 1 facts n)
+bad-fact facts (Not a) = false
+bad-fact facts (Binary c a b) = false
+bad-fact facts (Knows i a) = false
+bad-fact facts (KnowsWhether i a) = false
+bad-fact facts (Shared g a) = false
+bad-fact facts (SharedWhether g a) = false
+bad-fact facts (Post a b) = false
+bad-fact facts (PostWhether a b) = false
+bad-fact facts (Tell g a b) = false
+bad-fact facts (TellWhether g a b) = false
 
 -- a party that the plan lacks, or a group that is empty or has such a member
-abbrev pub bad-party : Terms → Kind → Bool
-bad-party p Top = false
-bad-party p Bottom = false
-bad-party p (Fact n) = false
-bad-party p (Not a) = false
-bad-party p (Binary c a b) = false
-bad-party p (Knows i a) = leb (p .parties) i
-bad-party p (KnowsWhether i a) = leb (p .parties) i
-bad-party p (Shared g a) = Bools.not (is-present (p .parties) g)
-bad-party p (SharedWhether g a) = Bools.not (is-present (p .parties) g)
-bad-party p (Post a b) = false
-bad-party p (PostWhether a b) = false
-bad-party p (Tell g a b) = Bools.not (is-present (p .parties) g)
-bad-party p (TellWhether g a b) = Bools.not (is-present (p .parties) g)
+abbrev pub bad-party : ℕ → Kind → Bool
+bad-party parties Top = false
+bad-party parties Bottom = false
+bad-party parties (Fact n) = false
+bad-party parties (Not a) = false
+bad-party parties (Binary c a b) = false
+bad-party parties (Knows i a) = leb parties i
+bad-party parties (KnowsWhether i a) = leb parties i
+bad-party parties (Shared g a) = Bools.not (is-present parties g)
+bad-party parties (SharedWhether g a) = Bools.not (is-present parties g)
+bad-party parties (Post a b) = false
+bad-party parties (PostWhether a b) = false
+bad-party parties (Tell g a b) = Bools.not (is-present parties g)
+bad-party parties (TellWhether g a b) = Bools.not (is-present parties g)
 
 -- knowledge or a notice, which a law must not have
 abbrev pub is-modal : Family → Bool
@@ -73,8 +73,8 @@ bad-child k r = foldr (λ a. _||_ (leb k a)) false (children r)
 -- the fault with the lowest number of the record at a place, which has this depth
 abbrev pub record-fault : Terms → ℕ → ℕ → Kind → Option Cause
 record-fault p place depth k =
-    cond (bad-fact p k) (Some cause.Fact)
-    (cond (bad-party p k) (Some cause.Party)
+    cond (bad-fact (p .facts) k) (Some cause.Fact)
+    (cond (bad-party (p .parties) k) (Some cause.Party)
     (cond (ltb 12 depth) (Some cause.Deep)
     (cond (p .in-law && is-modal (family k)) (Some cause.Knowledge)
     (cond (bad-child place k) (Some cause.Child) None))))

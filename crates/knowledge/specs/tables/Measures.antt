@@ -1,5 +1,5 @@
 -- What is kept of the records of a table while it is checked.
-use mathlib.Core.Bool.{Bool, true, false, _||_}
+use mathlib.Core.Bool.{Bool, true, false, not, _||_}
 use mathlib.Core.List.{List}
 use mathlib.Core.Logic.{_↔_}
 use mathlib.Core.Path.{_≡_}
@@ -77,7 +77,7 @@ abbrev pub Mentions : Option Fault → Table → Result Bool Fault → Type 0
 Mentions verdict t (Ok says) = (verdict ≡ None) × (T says ↔ Mentions-knowledge (formula t))
 Mentions verdict t (Err f) = verdict ≡ Some f
 
--- how the question ends whether a notice may change places: it may if it does not mention knowledge
+-- how the question ends whether a notice may change places: it may not exactly if it mentions knowledge
 abbrev pub Movable : Option Fault → Table → Result Bool Fault → Type 0
-Movable verdict t (Ok says) = (verdict ≡ None) × (T says ↔ ¬ Mentions-knowledge (formula t))
+Movable verdict t (Ok says) = (verdict ≡ None) × (T (not says) ↔ Mentions-knowledge (formula t))
 Movable verdict t (Err f) = verdict ≡ Some f
