@@ -4,5 +4,6 @@ pub mod Bits
 pub mod Members
 pub mod Numbered
 pub mod Seating
+pub mod Planning
 pub mod tables
 pub mod truth

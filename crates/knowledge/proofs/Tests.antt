@@ -1,5 +1,5 @@
 -- What tests decide.
-use mathlib.Core.Bool.{Bool, true, false, _&&_, _||_, Bool·beq}
+use mathlib.Core.Bool.{Bool, true, false, not as negated, _&&_, _||_, Bool·beq}
 use mathlib.Core.Logic.{_⊎_, inl, inr, _↔_, Iff·rfl, Iff·trans, Iff·and}
 use mathlib.Core.Path.{_≡_, refl, sym, subst}
 use Prim.Native.Nat.{ℕ, zero, suc, _<_, _≤_}
@@ -8,6 +8,7 @@ use native.Mathlib.Omega.{arith}
 use lib.Dec.{T, leb, ltb, leb→le, le→leb, ltb→lt, lt→ltb}
 use Rattle.knowledge.specs.declared.table.Connective.{Connective}
 use Rattle.knowledge.specs.declared.table.Connective.the-variants.{And, Or, Xor, Implies, Iff}
+use Rattle.knowledge.specs.Sets.{between}
 use Rattle.knowledge.specs.truth.Truth.{Joined}
 use Rattle.knowledge.proofs.Logic.{⊎-iff}
 
@@ -29,12 +30,11 @@ T-leb m n = (leb→le m n, le→leb m n)
 pub T-ltb : (m n : ℕ) → T (ltb m n) ↔ (m < n)
 T-ltb m n = (ltb→lt m n, lt→ltb m n)
 
--- the opposite of a test
-abbrev pub negated : Bool → Bool
-negated true = false
-negated false = true
+-- the test of a range
+pub T-between : (first last n : ℕ) → T (between first last n) ↔ ((first ≤ n) × (n ≤ last))
+T-between first last n = Iff·trans (T-and (leb first n) (leb n last)) (Iff·and (T-leb first n) (T-leb n last))
 
--- and what it decides
+-- the opposite of a test
 pub T-negated : (a : Bool) → T (negated a) ↔ (T a → ⊥)
 T-negated true = (λ t _. t, λ f. f tt)
 T-negated false = (λ t x. x, λ f. tt)

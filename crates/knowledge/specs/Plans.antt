@@ -1,8 +1,9 @@
 -- Plans, and how one is made from numbers.
 use mathlib.Core.Bool.{Bool, cond, _&&_}
 use mathlib.Core.List.{List, []}
+use mathlib.Core.Logic.{_↔_}
 use mathlib.Core.Path.{_≡_}
-use Prim.Native.Nat.{ℕ}
+use Prim.Native.Nat.{ℕ, _≤_}
 use lib.Dec.{ltb}
 use lib.ListN.{length, getD}
 use Rattle.std.specs.declared.option.Option.{Option}
@@ -15,8 +16,9 @@ use Rattle.knowledge.specs.declared.plan.Plan.{Plan}
 use Rattle.knowledge.specs.declared.sets.FactSet.{FactSet}
 use Rattle.knowledge.specs.tables.Check.{Terms}
 use Rattle.knowledge.specs.Faults.{in-matter}
+use Rattle.knowledge.specs.Lists.{Each}
 use Rattle.knowledge.specs.Seats.{seat, Seated, all-within}
-use Rattle.knowledge.specs.Sets.{between}
+use Rattle.knowledge.specs.Sets.{between, Within}
 
 -- what is wrong with the numbers of a plan: facts or a sight outside the limits, then the number of parties
 abbrev pub plan-fault : ℕ → List FactSet → Option Fault
@@ -43,3 +45,21 @@ sight-of p i = cond (ltb i (p .count)) (Some (getD (p .parties) i (seat [] 0) .s
 -- what a table of a plan is checked against
 abbrev pub terms-of : Bool → Plan → Terms
 terms-of in-law p = record { facts = p .facts; parties = p .count; in-law = in-law }
+
+-- the facts and the sights are within the limits
+pub record Fits (n : ℕ) (sights : List FactSet) : Type 0 where
+  pub some : 1 ≤ n
+  pub few : n ≤ 40
+  pub seen : Each (Within n) sights
+
+-- so is the number of parties
+abbrev pub Seats-all : List FactSet → Type 0
+Seats-all sights = (1 ≤ length sights) × (length sights ≤ 8)
+
+-- In words: facts or a sight outside the limits are refused Fact, then a number of parties outside them Party, and nothing else is refused.
+abbrev pub Plan-in-words : Type 0
+Plan-in-words =
+    (n : ℕ) (sights : List FactSet)
+    → ((plan-fault n sights ≡ Some (in-matter Fact)) ↔ ¬ Fits n sights)
+    × ((plan-fault n sights ≡ Some (in-matter Party)) ↔ (Fits n sights × ¬ Seats-all sights))
+    × ((plan-fault n sights ≡ None) ↔ (Fits n sights × Seats-all sights))

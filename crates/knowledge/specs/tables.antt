@@ -2,3 +2,4 @@ pub mod Formulas
 pub mod Tables
 pub mod Measures
 pub mod Check
+pub mod Breaches

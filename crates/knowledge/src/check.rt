@@ -1,6 +1,7 @@
 // The check of a formula table, and what the scheduler and the matter ask of a table that passes it.
 ghost use mathlib.Core.Bool.{true, false};
 ghost use mathlib.Core.Path.{_≡_};
+ghost use Rattle.knowledge.specs.tables.Breaches.{Check-in-words};
 ghost use Rattle.knowledge.specs.tables.Check.{check, passed};
 ghost use Rattle.knowledge.specs.tables.Measures.{Mentions};
 ghost use Rattle.knowledge.specs.Plans.{terms-of};
@@ -11,18 +12,26 @@ use crate::survey::survey;
 use crate::table::Record;
 
 // Refuses a table that is no formula for a plan.
-pub fn check(plan: &Plan, table: &[Record]) -> Result<(), Fault>
-    ensures { λ r. ⌜ r ≡ passed (check (terms-of false (now (plan .entry))) (now (table .entry))) tt ⌝ }
+pub fn check(plan: &Plan, formula: &[Record]) -> Result<(), Fault>
+    ensures value { λ r. ⌜ r ≡ passed (check (terms-of false (now (plan .entry))) (now (formula .entry))) tt ⌝ }
+    ensures words { λ _. ⌜ Check-in-words ⌝ }
 {
-    survey(plan, false, table)?;
+    check_in_words();
+    survey(plan, false, formula)?;
     Ok(())
 }
 
-// Refuses a table that is no law for a plan.
-pub fn check_law(plan: &Plan, table: &[Record]) -> Result<(), Fault>
-    ensures { λ r. ⌜ r ≡ passed (check (terms-of true (now (plan .entry))) (now (table .entry))) tt ⌝ }
+// What the check refuses, in words; it computes nothing.
+fn check_in_words()
+    ensures { λ _. ⌜ Check-in-words ⌝ }
 {
-    survey(plan, true, table)?;
+}
+
+// Refuses a table that is no law for a plan.
+pub fn check_law(plan: &Plan, law: &[Record]) -> Result<(), Fault>
+    ensures { λ r. ⌜ r ≡ passed (check (terms-of true (now (plan .entry))) (now (law .entry))) tt ⌝ }
+{
+    survey(plan, true, law)?;
     Ok(())
 }
 

@@ -31,7 +31,7 @@ use Rattle.knowledge.proofs.tables.Surveying.{gauged, nests-few}
 abbrev formulas : ℕ → Table → List Formula
 formulas i t = in-order formula-of [] (take i t)
 
-abbrev depths : ℕ → Table → List ℕ
+abbrev pub depths : ℕ → Table → List ℕ
 depths i t = in-order depth-of [] (take i t)
 
 -- i records are measured and without fault, and the rest decides
@@ -86,20 +86,27 @@ first-decides p ds r rs = go (record-fault p (length ds) (depth-of ds r) (r .kin
 depths-more : (i : ℕ) (t : Table) → i < length t → depths i t ++ (depth-of (depths i t) (getD t i none) ∷ []) ≡ depths (i + 1) t
 depths-more i t h = sym (ap (in-order depth-of []) (take-more t i none h) ∙ in-order-push depth-of [] (take i t) (getD t i none))
 
--- the next record decides, or those after it do
+-- the record at place i decides, or those after it do
+pub decides-at : (p : Terms) (t : Table) (i : ℕ) → i < length t
+    → first-fault p (depths i t) (drop i t)
+    ≡ outcome p i (depths (i + 1) t) (drop (i + 1) t) (record-fault p i (depth-of (depths i t) (getD t i none)) (getD t i none .kind))
+decides-at p t i h =
+    let r : Record = getD t i none in
+    let d : ℕ = depth-of (depths i t) r in
+    let n : length (depths i t) ≡ i = depths-length i t (omega arith) in
+    let m : depths i t ++ (d ∷ []) ≡ depths (i + 1) t = depths-more i t h in
+    at-drop-more (first-fault p (depths i t)) t i none h
+    ∙ (first-decides p (depths i t) r (drop (i + 1) t)
+    ∙ (λ j. outcome p (n j) (m j) (drop (i + 1) t) (record-fault p (n j) d (r .kind))))
+
+-- so does the next record, by what it measures
 next-decides : (p : Terms) (t : Table) (i : ℕ) (ms : List Measure) (last : Measure) → Stands p t i ms last → i < length t
     → first-fault p [] t
-    ≡ outcome p i (depths (i + 1) t) (drop (i + 1) t)
-        (record-fault p i (measure-of (take i ms) (getD t i none) .depth) (getD t i none .kind))
+    ≡ outcome p i (depths (i + 1) t) (drop (i + 1) t) (record-fault p i (measure-of (take i ms) (getD t i none) .depth) (getD t i none .kind))
 next-decides p t i ms last s h =
     let r : Record = getD t i none in
-    let n : length (depths i t) ≡ i = depths-length i t (omega arith) in
     let d : depth-of (depths i t) r ≡ measure-of (take i ms) r .depth = sym (next-gauged p t i ms last s .depth) in
-    let m : depths i t ++ (depth-of (depths i t) r ∷ []) ≡ depths (i + 1) t = depths-more i t h in
-    sym (s .rest)
-    ∙ (at-drop-more (first-fault p (depths i t)) t i none h
-    ∙ (first-decides p (depths i t) r (drop (i + 1) t)
-    ∙ (λ j. outcome p (n j) (m j) (drop (i + 1) t) (record-fault p (n j) (d j) (r .kind)))))
+    sym (s .rest) ∙ (decides-at p t i h ∙ (λ j. outcome p i (depths (i + 1) t) (drop (i + 1) t) (record-fault p i (d j) (r .kind))))
 
 -- what holds of each place of a list, and of one value more
 each-push : {X : Type 0} (P : X → Type 0) (xs : List X) (x d : X) → ((k : ℕ) → P (getD xs k d)) → P x → (k : ℕ) → P (getD (xs ++ (x ∷ [])) k d)
@@ -165,7 +172,7 @@ unfolding check
 refuses-length p t f e g = rw (e, g)
 
 -- the check of a table of a good length goes by its records
-checked-records : (p : Terms) (t : Table) → between 1 256 (length t) ≡ true → check p t ≡ first-fault p [] t
+pub checked-records : (p : Terms) (t : Table) → between 1 256 (length t) ≡ true → check p t ≡ first-fault p [] t
 unfolding check
 checked-records p t e = rw e
 

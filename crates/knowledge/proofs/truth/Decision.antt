@@ -1,5 +1,5 @@
 -- A test of truth, by the worlds that a matter can have.
-use mathlib.Core.Bool.{Bool, true, false, _&&_, Bool·beq}
+use mathlib.Core.Bool.{Bool, true, false, not as negated, _&&_, Bool·beq}
 use mathlib.Core.List.{List, [], _∷_}
 use mathlib.Core.Logic.{inl, inr, _↔_, Iff·rfl, Iff·trans, Iff·symm, Iff·not, Iff·and}
 use mathlib.Mathlib.Logic.Basic.{Iff·imp}
@@ -16,7 +16,7 @@ use Rattle.knowledge.specs.truth.Truth.{World, start, copy, told, facts-of, Mo
 use Rattle.knowledge.specs.truth.Situations.{Setting, sight, Agree, blank, Keeps-law, Lawful, starting, Notice, posted, told-to, Situation, Holds, after, after-all, opened}
 use Rattle.knowledge.specs.truth.Verdicts.{Verdict, verdicts, Verdicts-true}
 use Rattle.knowledge.proofs.Logic.{joined-iff}
-use Rattle.knowledge.proofs.Tests.{T-and, negated, T-negated, implied, T-implied, T-beq, joined-test, T-joined, all-below, T-all-below, less-or-equal}
+use Rattle.knowledge.proofs.Tests.{T-and, T-negated, implied, T-implied, T-beq, joined-test, T-joined, all-below, T-all-below, less-or-equal}
 use Rattle.knowledge.proofs.Bits.{member-below, within-bits}
 use Rattle.knowledge.proofs.truth.Listing.{Listed, sift, listed-sift, start-no-copy}
 use Rattle.knowledge.proofs.truth.Finite.{Finite, Shows, keep, duplicate, Decides-each, keep-shows, duplicate-shows, known?, known-decided, shared?, shared-decided}

@@ -2,7 +2,7 @@
 ghost use mathlib.Core.Path.{_≡_};
 ghost use Prim.Native.Nat.{ℕ, _<_, _≤_};
 ghost use lib.ListN.{length, take};
-ghost use Rattle.knowledge.specs.Plans.{Planned, sight-of};
+ghost use Rattle.knowledge.specs.Plans.{Planned, Plan-in-words, sight-of};
 ghost use Rattle.knowledge.specs.Seats.{all-within, Seated};
 use super::Party;
 use super::Plan;
@@ -13,8 +13,10 @@ use crate::sets::FactSet;
 impl Plan {
     // A plan with this many facts, and a party for each sight.
     pub fn new(facts: usize, sights: &[FactSet]) -> Result<Plan, Fault>
-        ensures { λ r. ⌜ Planned facts (now (sights .entry)) r ⌝ }
+        ensures value { λ r. ⌜ Planned facts (now (sights .entry)) r ⌝ }
+        ensures words { λ _. ⌜ Plan-in-words ⌝ }
     {
+        plan_in_words();
         if facts < 1 || facts > 40 || !all_within(facts, sights) {
             return Err(Fault::in_matter(Cause::Fact));
         }
@@ -44,8 +46,18 @@ impl Plan {
     pub fn sight(&self, party: usize) -> Option<FactSet>
         ensures { λ r. ⌜ r ≡ sight-of (now (self .entry)) party ⌝ }
     {
-        if party < self.count { Some(self.parties[party].sight) } else { None }
+        if party < self.parties() {
+            Some(self.parties[party].sight)
+        } else {
+            None
+        }
     }
+}
+
+// What is refused, in words; it computes nothing.
+fn plan_in_words()
+    ensures { λ _. ⌜ Plan-in-words ⌝ }
+{
 }
 
 // Whether no sight has a fact past `last`.
