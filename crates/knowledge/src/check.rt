@@ -24,8 +24,7 @@ pub fn check(plan: &Plan, formula: &[Record]) -> Result<(), Fault>
 // What the check refuses, in words; it computes nothing.
 fn check_in_words()
     ensures { λ _. ⌜ Check-in-words ⌝ }
-{
-}
+{}
 
 // Refuses a table that is no law for a plan.
 pub fn check_law(plan: &Plan, law: &[Record]) -> Result<(), Fault>

@@ -101,14 +101,22 @@ impl Fault {
     pub fn in_matter(cause: Cause) -> Fault
         ensures { λ r. ⌜ r ≡ in-matter cause ⌝ }
     {
-        Fault { cause, layer: Layer::Matter, place: 0 }
+        Fault {
+            cause,
+            layer: Layer::Matter,
+            place: 0,
+        }
     }
 
     // A refusal at a record of a formula table.
     pub fn in_table(cause: Cause, record: usize) -> Fault
         ensures { λ r. ⌜ r ≡ in-table cause «record» ⌝ }
     {
-        Fault { cause, layer: Layer::Formula, place: record }
+        Fault {
+            cause,
+            layer: Layer::Formula,
+            place: record,
+        }
     }
 }
 

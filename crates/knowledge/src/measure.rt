@@ -1,11 +1,10 @@
 // What a table's records measure: how deep they are, how many tells they nest, whether they mention knowledge.
 ghost use mathlib.Core.Path.{_≡_};
-ghost use mathlib.Core.List.{List};
-ghost use Prim.Native.Nat.{ℕ, _≤_};
+ghost use Prim.Native.Nat.{_≤_};
 ghost use lib.ListN.{take};
 ghost use Rattle.knowledge.specs.tables.Measures.{unmeasured, child-of, combined, measure-of, Small};
 use crate::table::Family;
-use crate::table::Kind;
+use crate::table::MOST_RECORDS;
 use crate::table::Record;
 
 // What one record measures.
@@ -20,24 +19,22 @@ pub struct Measure {
 pub(crate) fn unmeasured() -> Measure
     ensures { λ r. ⌜ r ≡ unmeasured ⌝ }
 {
-    Measure { depth: 0, tells: 0, knowledge: false }
+    Measure {
+        depth: 0,
+        tells: 0,
+        knowledge: false,
+    }
 }
 
 // What a child measures, if it is one of the earlier records.
-fn child(earlier: &[Measure; 256], place: usize, at: Option<usize>) -> Measure
+fn child(earlier: &[Measure; MOST_RECORDS], place: usize, at: Option<usize>) -> Measure
     requires { ⌜ place ≤ 256 ⌝ }
     ensures { λ r. ⌜ r ≡ child-of (take place (now (earlier .entry))) at ⌝ }
 {
-    match at {
-        Some(a) => {
-            if a < place {
-                earlier[a]
-            } else {
-                unmeasured()
-            }
-        }
-        None => unmeasured(),
-    }
+    let Some(a) = at else {
+        return unmeasured();
+    };
+    if a < place { earlier[a] } else { unmeasured() }
 }
 
 // What a record measures, from what its children do.
@@ -54,11 +51,15 @@ fn combined(family: Family, a: Measure, b: Measure) -> Measure
         Family::Knowing => true,
         _ => a.knowledge | b.knowledge,
     };
-    Measure { depth, tells, knowledge }
+    Measure {
+        depth,
+        tells,
+        knowledge,
+    }
 }
 
 // What a record measures that follows so many earlier ones.
-pub(crate) fn measured(record: Record, earlier: &[Measure; 256], place: usize) -> Measure
+pub(crate) fn measured(record: Record, earlier: &[Measure; MOST_RECORDS], place: usize) -> Measure
     requires place { ⌜ place ≤ 256 ⌝ }
     requires small { ⌜ Small 12 (take place (now earlier)) ⌝ }
     ensures { λ r. ⌜ r ≡ measure-of (take place (now (earlier .entry))) «record» ⌝ }

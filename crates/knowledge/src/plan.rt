@@ -5,6 +5,11 @@ ghost use Prim.Native.Nat.{_≤_};
 ghost use Rattle.knowledge.specs.Seats.{Seen};
 use crate::sets::FactSet;
 
+// The limits of a plan.
+pub const MOST_FACTS: usize = 40;
+
+pub const MOST_PARTIES: usize = 8;
+
 // A party, by its sight: the facts that it observes.
 #[derive(Clone, Copy)]
 pub struct Party {
@@ -16,7 +21,7 @@ pub struct Party {
 pub struct Plan {
     facts: usize,
     count: usize,
-    parties: [Party; 8],
+    parties: [Party; MOST_PARTIES],
     ghost some_fact: { 1 ≤ facts },
     ghost few_facts: { facts ≤ 40 },
     ghost some_party: { 1 ≤ count },

@@ -29,5 +29,4 @@ fn law_over_runs()
     ensures agree { λ _. ⌜ Runs-agree ⌝ }
     ensures opens { λ _. ⌜ Opens-answered × Opens-settled ⌝ }
     ensures calls { λ _. ⌜ Calls-answered × Answers-settled ⌝ }
-{
-}
+{}

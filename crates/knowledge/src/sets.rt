@@ -4,9 +4,11 @@ ghost use mathlib.Core.Bool.{Bool, _&&_};
 ghost use Prim.Native.Nat.{ℕ, _+_, _-_, _^_, _<_, _≤_};
 ghost use lib.Dec.{leb, ltb};
 ghost use Rattle.knowledge.specs.Faults.{in-matter};
-ghost use Rattle.knowledge.specs.Sets.{has, in-facts, in-group, is-within, is-present, Collected, Facts-collected, Members-collected};
+ghost use Rattle.knowledge.specs.Sets.{has, in-facts, in-group, no-facts, is-within, is-present, Collected, Facts-collected, Members-collected};
 use crate::fault::Cause;
 use crate::fault::Fault;
+use crate::plan::MOST_FACTS;
+use crate::plan::MOST_PARTIES;
 
 // A set of facts: fact p is bit p - 1.
 #[derive(Clone, Copy, PartialEq, Eq, Debug)]
@@ -25,13 +27,13 @@ impl FactSet {
     pub fn of(facts: &[usize]) -> Result<FactSet, Fault>
         ensures { λ r. ⌜ Facts-collected (now (facts .entry)) r ⌝ }
     {
-        let bits = collect(facts, 1, 40, Cause::Fact)?;
+        let bits = collect(facts, 1, MOST_FACTS, Cause::Fact)?;
         Ok(FactSet { bits })
     }
 
     // The set without facts.
-    pub fn none() -> FactSet
-        ensures { λ r. ⌜ r ≡ record { bits = 0 } ⌝ }
+    pub(crate) fn none() -> FactSet
+        ensures { λ r. ⌜ r ≡ no-facts ⌝ }
     {
         FactSet { bits: 0 }
     }
@@ -56,7 +58,7 @@ impl Group {
     pub fn of(members: &[usize]) -> Result<Group, Fault>
         ensures { λ r. ⌜ Members-collected (now (members .entry)) r ⌝ }
     {
-        let bits = collect(members, 0, 7, Cause::Party)?;
+        let bits = collect(members, 0, MOST_PARTIES - 1, Cause::Party)?;
         Ok(Group { bits })
     }
 

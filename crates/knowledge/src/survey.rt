@@ -1,8 +1,5 @@
 // One pass over a formula table: its first fault, or what its last record measures.
 ghost use mathlib.Core.Path.{_≡_};
-ghost use mathlib.Core.Bool.{Bool, true, false};
-ghost use Prim.Native.Nat.{ℕ, _<_, _≤_};
-ghost use lib.ListN.{length, take};
 ghost use Rattle.knowledge.specs.tables.Check.{bad-fact, bad-party, bad-child, is-modal, record-fault, check};
 ghost use Rattle.knowledge.specs.tables.Measures.{Surveyed};
 ghost use Rattle.knowledge.specs.Plans.{terms-of};
@@ -15,6 +12,8 @@ use crate::measure::unmeasured;
 use crate::plan::Plan;
 use crate::table::Family;
 use crate::table::Kind;
+use crate::table::MOST_DEPTH;
+use crate::table::MOST_RECORDS;
 use crate::table::Record;
 
 // Whether a record names a fact that the plan lacks.
@@ -70,7 +69,7 @@ fn fault_in(plan: &Plan, in_law: bool, place: usize, depth: usize, kind: Kind) -
         Some(Cause::Fact)
     } else if bad_party(plan, kind) {
         Some(Cause::Party)
-    } else if depth > 12 {
+    } else if depth > MOST_DEPTH {
         Some(Cause::Deep)
     } else if in_law && is_modal(kind) {
         Some(Cause::Knowledge)
@@ -85,10 +84,10 @@ fn fault_in(plan: &Plan, in_law: bool, place: usize, depth: usize, kind: Kind) -
 pub(crate) fn survey(plan: &Plan, in_law: bool, table: &[Record]) -> Result<Measure, Fault>
     ensures { λ r. ⌜ Surveyed (check (terms-of «in_law» (now (plan .entry))) (now (table .entry))) (now (table .entry)) r ⌝ }
 {
-    if table.len() < 1 || table.len() > 256 {
+    if table.len() < 1 || table.len() > MOST_RECORDS {
         return Err(Fault::in_table(Cause::Nodes, 0));
     }
-    let mut measures = [unmeasured(); 256];
+    let mut measures = [unmeasured(); MOST_RECORDS];
     let mut last = unmeasured();
     for (place, record) in table.iter().enumerate() {
         last = measured(*record, &measures, place);

@@ -3,6 +3,11 @@ ghost use mathlib.Core.Path.{_≡_};
 ghost use Rattle.knowledge.specs.tables.Tables.{children, pair, family};
 use crate::sets::Group;
 
+// The limits of a table.
+pub const MOST_RECORDS: usize = 256;
+
+pub const MOST_DEPTH: usize = 12;
+
 // How two formulas are joined.
 #[derive(Clone, Copy)]
 pub enum Connective {
@@ -19,25 +24,59 @@ pub enum Connective {
 pub enum Kind {
     Top,
     Bottom,
-    Fact { number: usize },
-    Not { body: usize },
-    Binary { connective: Connective, left: usize, right: usize },
+    Fact {
+        number: usize,
+    },
+    Not {
+        body: usize,
+    },
+    Binary {
+        connective: Connective,
+        left: usize,
+        right: usize,
+    },
     // a party knows the body
-    Knows { party: usize, body: usize },
+    Knows {
+        party: usize,
+        body: usize,
+    },
     // a party knows the body, or knows that it is not so
-    KnowsWhether { party: usize, body: usize },
+    KnowsWhether {
+        party: usize,
+        body: usize,
+    },
     // the body is common knowledge in a group
-    Shared { group: Group, body: usize },
+    Shared {
+        group: Group,
+        body: usize,
+    },
     // the body, or that it is not so, is common knowledge in a group
-    SharedWhether { group: Group, body: usize },
+    SharedWhether {
+        group: Group,
+        body: usize,
+    },
     // once the notice is announced to all, the body holds
-    Post { notice: usize, body: usize },
+    Post {
+        notice: usize,
+        body: usize,
+    },
     // once it is announced to all whether the notice is true, the body holds
-    PostWhether { notice: usize, body: usize },
+    PostWhether {
+        notice: usize,
+        body: usize,
+    },
     // once the notice is told to a group, which nobody else remarks, the body holds
-    Tell { group: Group, notice: usize, body: usize },
+    Tell {
+        group: Group,
+        notice: usize,
+        body: usize,
+    },
     // once a group is told whether the notice is true, which nobody else remarks, the body holds
-    TellWhether { group: Group, notice: usize, body: usize },
+    TellWhether {
+        group: Group,
+        notice: usize,
+        body: usize,
+    },
 }
 
 // One record of a formula table.
@@ -80,9 +119,8 @@ impl Kind {
         ensures { λ r. ⌜ r ≡ family self ⌝ }
     {
         match self {
-            Kind::Top | Kind::Bottom | Kind::Fact { .. } | Kind::Not { .. } | Kind::Binary { .. } => {
-                Family::Boolean
-            }
+            Kind::Top | Kind::Bottom | Kind::Fact { .. } | Kind::Not { .. } | Kind::Binary { .. } =>
+                { Family::Boolean }
             Kind::Knows { .. }
             | Kind::KnowsWhether { .. }
             | Kind::Shared { .. }

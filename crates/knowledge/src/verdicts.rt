@@ -1,4 +1,5 @@
-// Queries whose answers were worked out by hand.
+// Queries whose answers were worked out by hand. The plans A, B and C and the formulas D, Q and T stand in docs/RULES.md,
+// section 11.
 ghost use mathlib.Core.Path.{_≡_};
 ghost use Rattle.knowledge.specs.truth.Script.{Script-runs};
 ghost use Rattle.knowledge.specs.truth.Verdicts.{answers, Verdicts-true};
@@ -10,12 +11,22 @@ pub fn worked_verdicts() -> [bool; 10]
     ensures script { λ _. ⌜ Script-runs ⌝ }
 {
     truth_of_verdicts();
-    [false, true, true, false, true, false, true, false, true, false]
+    [
+        false, // plan A, facts 1,2,3: [!D]alice knows that 1
+        true, // plan A, facts 1,2,3: [!D][!Q][!Q]alice knows that 1
+        true, // plan A, facts 1,2: [!D][!Q]alice knows that 1
+        false, // plan A, facts 1,2: [!Q][!D]alice knows that 1
+        true, // plan A, no facts: [!D]Bot
+        false, // plan A, facts 1,2,3: {alice,bob,carol} shared that D
+        true, // plan B, fact 1: bob knows that 1
+        false, // plan B, facts 1,2: [{bob}!1]alice knows that bob knows that 1
+        true, // plan B, fact 2: [{bob}?!1]bob knows that ~1
+        false, // plan C, fact 1: [!T]T
+    ]
 }
 
 // That the ten answers are true and the script is a run; it computes nothing.
 fn truth_of_verdicts()
     ensures truth { λ _. ⌜ Verdicts-true ⌝ }
     ensures script { λ _. ⌜ Script-runs ⌝ }
-{
-}
+{}

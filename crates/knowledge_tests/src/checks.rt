@@ -29,7 +29,10 @@ fn facts() -> Result<(), Fail> {
     check_eq(refusal(check(&plan, &[fact(2)])), (0, 0))?;
     check_eq(refusal(check(&plan, &[fact(0)])), (4, 0))?;
     check_eq(refusal(check(&plan, &[top(), fact(3)])), (4, 1))?;
-    check_eq(refusal(check(&plan, &[top(), top(), fact(usize::MAX)])), (4, 2))?;
+    check_eq(
+        refusal(check(&plan, &[top(), top(), fact(usize::MAX)])),
+        (4, 2),
+    )?;
     check_eq(refusal(check_law(&plan, &[fact(3)])), (4, 0))
 }
 
@@ -106,7 +109,10 @@ fn laws() -> Result<(), Fail> {
         check_eq(refusal(check_law(&plan, &[top(), *r])), expected)?;
     }
     // knowledge that the last record is not built on
-    check_eq(refusal(check_law(&plan, &[top(), knows(0, 0), top()])), (8, 1))
+    check_eq(
+        refusal(check_law(&plan, &[top(), knows(0, 0), top()])),
+        (8, 1),
+    )
 }
 
 #[test]
@@ -138,13 +144,20 @@ fn two_faults() -> Result<(), Fail> {
     check_eq(refusal(check_law(&plan, &[knows(1, 0)])), (8, 0))?;
     check_eq(refusal(check_law(&plan, &deep(12, knows(1, 11)))), (7, 12))?;
     check_eq(refusal(check(&plan, &deep(12, and(11, 12)))), (7, 12))?;
-    let tell = of(Kind::Tell { group: nobody, notice: 11, body: 12 });
+    let tell = of(Kind::Tell {
+        group: nobody,
+        notice: 11,
+        body: 12,
+    });
     check_eq(refusal(check_law(&plan, &deep(12, tell))), (5, 12))?;
     // a bad child does not count for depth
     check_eq(refusal(check(&plan, &deep(11, and(12, 10)))), (9, 11))?;
     // of two records, the first
     check_eq(refusal(check(&plan, &[not(0), fact(0)])), (9, 0))?;
     check_eq(refusal(check(&plan, &[fact(3), knows(2, 7)])), (4, 0))?;
-    let shared = of(Kind::Shared { group: both, body: 5 });
+    let shared = of(Kind::Shared {
+        group: both,
+        body: 5,
+    });
     check_eq(refusal(check(&plan, &[top(), shared, fact(9)])), (9, 1))
 }

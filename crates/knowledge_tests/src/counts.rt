@@ -27,16 +27,31 @@ fn depths_of_tables() -> Result<(), Fail> {
 fn tells_of_tables() -> Result<(), Fail> {
     let plan = two_by_two()?;
     let group = Group::of(&[1])?;
-    let tell = of(Kind::Tell { group, notice: 0, body: 0 });
-    let after = of(Kind::TellWhether { group, notice: 0, body: 1 });
-    let inside = of(Kind::Tell { group, notice: 2, body: 0 });
+    let tell = of(Kind::Tell {
+        group,
+        notice: 0,
+        body: 0,
+    });
+    let after = of(Kind::TellWhether {
+        group,
+        notice: 0,
+        body: 1,
+    });
+    let inside = of(Kind::Tell {
+        group,
+        notice: 2,
+        body: 0,
+    });
     check_eq(tell_count(&plan, &[top()])?, 0)?;
     check_eq(tell_count(&plan, &[top(), tell])?, 1)?;
     check_eq(tell_count(&plan, &[top(), tell, after])?, 2)?;
     // a tell in what is told is settled before the mark
     check_eq(tell_count(&plan, &[top(), tell, after, inside])?, 2)?;
     check_eq(tell_count(&plan, &[top(), tell, after, and(1, 2)])?, 2)?;
-    check_eq(tell_count(&plan, &[top(), tell, of(Kind::Post { notice: 1, body: 0 })])?, 1)?;
+    check_eq(
+        tell_count(&plan, &[top(), tell, of(Kind::Post { notice: 1, body: 0 })])?,
+        1,
+    )?;
     check(tell_count(&plan, &[fact(0)]).is_err())
 }
 

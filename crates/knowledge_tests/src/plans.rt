@@ -92,10 +92,22 @@ fn members_of_sets() -> Result<(), Fail> {
 
 #[test]
 fn refusals_as_printed(rt: LibcRuntime) -> Result<(), Fail> {
-    let untrue = Fault { cause: Cause::Untrue, layer: Layer::Matter, place: 0 };
+    let untrue = Fault {
+        cause: Cause::Untrue,
+        layer: Layer::Matter,
+        place: 0,
+    };
     check(format!(rt.alloc(), "{untrue}")?.as_str() == "refused 14 M 0")?;
-    let long = Fault { cause: Cause::Long, layer: Layer::Notice, place: 8192 };
+    let long = Fault {
+        cause: Cause::Long,
+        layer: Layer::Notice,
+        place: 8192,
+    };
     check(format!(rt.alloc(), "{long}")?.as_str() == "refused 1 N 8192")?;
-    let memory = Fault { cause: Cause::Memory, layer: Layer::Plan, place: usize::MAX };
+    let memory = Fault {
+        cause: Cause::Memory,
+        layer: Layer::Plan,
+        place: usize::MAX,
+    };
     check(format!(rt.alloc(), "{memory}")?.as_str() == "refused 22 P 18446744073709551615")
 }

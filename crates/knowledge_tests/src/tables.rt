@@ -31,7 +31,11 @@ pub fn not(body: usize) -> Record {
 }
 
 pub fn and(left: usize, right: usize) -> Record {
-    of(Kind::Binary { connective: Connective::And, left, right })
+    of(Kind::Binary {
+        connective: Connective::And,
+        left,
+        right,
+    })
 }
 
 pub fn knows(party: usize, body: usize) -> Record {
@@ -53,10 +57,24 @@ pub fn singles(party: usize, group: Group, body: usize) -> [Record; 5] {
 pub fn doubles(group: Group, first: usize, second: usize) -> [Record; 5] {
     [
         and(first, second),
-        of(Kind::Post { notice: first, body: second }),
-        of(Kind::PostWhether { notice: first, body: second }),
-        of(Kind::Tell { group, notice: first, body: second }),
-        of(Kind::TellWhether { group, notice: first, body: second }),
+        of(Kind::Post {
+            notice: first,
+            body: second,
+        }),
+        of(Kind::PostWhether {
+            notice: first,
+            body: second,
+        }),
+        of(Kind::Tell {
+            group,
+            notice: first,
+            body: second,
+        }),
+        of(Kind::TellWhether {
+            group,
+            notice: first,
+            body: second,
+        }),
     ]
 }
 

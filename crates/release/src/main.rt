@@ -40,7 +40,12 @@ fn notice(rt: &impl Print, plan: &Plan, text: &str, table: &[Record]) -> Result<
 
 fn laws(rt: &impl Print, plan: &Plan) -> Result<(), AnyError> {
     law(rt, plan, "(1|2)", &sample::some_offer())?;
-    law(rt, plan, "alice knows that 2", &sample::alice_knows_second())
+    law(
+        rt,
+        plan,
+        "alice knows that 2",
+        &sample::alice_knows_second(),
+    )
 }
 
 // The notices of the bidding round, as they stand in the queue.
@@ -48,15 +53,30 @@ fn notices(rt: &impl Print, plan: &Plan) -> Result<(), AnyError> {
     notice(rt, plan, "POST (1|2)", &sample::some_offer())?;
     notice(rt, plan, "POST nobody knows yet", &sample::nobody_knows())?;
     notice(rt, plan, "POST 2", &sample::second())?;
-    notice(rt, plan, "POST [{bob}!1][{alice}?!2](1&2)", &sample::tells_before()?)?;
-    notice(rt, plan, "POST {alice,bob} shared whether 1", &sample::shared_first()?)
+    notice(
+        rt,
+        plan,
+        "POST [{bob}!1][{alice}?!2](1&2)",
+        &sample::tells_before()?,
+    )?;
+    notice(
+        rt,
+        plan,
+        "POST {alice,bob} shared whether 1",
+        &sample::shared_first()?,
+    )
 }
 
 // Notices that no matter of the plan takes.
 fn faulty(rt: &impl Print, plan: &Plan) -> Result<(), AnyError> {
     notice(rt, plan, "POST without records", &[])?;
     notice(rt, plan, "POST 3", &sample::third())?;
-    notice(rt, plan, "POST carol knows that 1", &sample::carol_knows_first())?;
+    notice(
+        rt,
+        plan,
+        "POST carol knows that 1",
+        &sample::carol_knows_first(),
+    )?;
     notice(rt, plan, "POST twelve times not", &sample::nested())?;
     notice(rt, plan, "POST not itself", &sample::itself())
 }

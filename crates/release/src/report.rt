@@ -62,9 +62,11 @@ pub impl fmt::Display for Report as ReportDisplay {
 fn cost_of(plan: &Plan, table: &[Record]) -> Result<Cost, Fault>
     ensures { λ r. ⌜ r ≡ passed (check (terms-of false (now (plan .entry))) (now (table .entry))) (cost-of (now (table .entry))) ⌝ }
 {
-    let depth = depth(plan, table)?;
-    let tells = tell_count(plan, table)?;
-    Ok(Cost { records: table.len(), depth, tells })
+    Ok(Cost {
+        records: table.len(),
+        depth: depth(plan, table)?,
+        tells: tell_count(plan, table)?,
+    })
 }
 
 // The report on a law.

@@ -31,7 +31,11 @@ fn knows(party: usize, body: usize) -> Record {
 }
 
 fn binary(connective: Connective, left: usize, right: usize) -> Record {
-    of(Kind::Binary { connective, left, right })
+    of(Kind::Binary {
+        connective,
+        left,
+        right,
+    })
 }
 
 // (1|2)
@@ -46,7 +50,15 @@ pub fn alice_knows_second() -> [Record; 2] {
 
 // (~alice knows that 2&~bob knows that 1)
 pub fn nobody_knows() -> [Record; 7] {
-    [fact(2), knows(0, 0), not(1), fact(1), knows(1, 3), not(4), binary(Connective::And, 2, 5)]
+    [
+        fact(2),
+        knows(0, 0),
+        not(1),
+        fact(1),
+        knows(1, 3),
+        not(4),
+        binary(Connective::And, 2, 5),
+    ]
 }
 
 // 2
@@ -62,8 +74,16 @@ pub fn tells_before() -> Result<[Record; 5], Fault> {
         fact(1),
         fact(2),
         binary(Connective::And, 0, 1),
-        of(Kind::TellWhether { group: alice, notice: 1, body: 2 }),
-        of(Kind::Tell { group: bob, notice: 0, body: 3 }),
+        of(Kind::TellWhether {
+            group: alice,
+            notice: 1,
+            body: 2,
+        }),
+        of(Kind::Tell {
+            group: bob,
+            notice: 0,
+            body: 3,
+        }),
     ])
 }
 

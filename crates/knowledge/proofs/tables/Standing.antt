@@ -148,9 +148,9 @@ goes-on p t i ms last m o s h l e g d =
     let more : take (i + 1) (set ms i m) ≡ take i ms ++ (m ∷ []) = take-more-set ms i m (omega arith) in
     let table : take (i + 1) t ≡ take i t ++ (r ∷ []) = take-more t i none h in
     let here : Gauge (formula-of (formulas i t) r) (depth-of (depths i t) r) m =
-        subst (λ (x : Measure). Gauge (formula-of (formulas i t) r) (depth-of (depths i t) r) x) (sym e) (next-gauged p t i ms last s) in
+    subst (λ (x : Measure). Gauge (formula-of (formulas i t) r) (depth-of (depths i t) r) x) (sym e) (next-gauged p t i ms last s) in
     let fs : formulas i t ++ (formula-of (formulas i t) r ∷ []) ≡ formulas (i + 1) t =
-        sym (ap (in-order formula-of []) table ∙ in-order-push formula-of [] (take i t) r) in
+    sym (ap (in-order formula-of []) table ∙ in-order-push formula-of [] (take i t) r) in
     let short : length (take i ms) ≡ i = length-take-le i ms (omega arith) in
     let none-wrong : record-fault p i (measure-of (take i ms) r .depth) (r .kind) ≡ None = rw e at f in
     let few : m .tells ≤ m .depth = rw e (nests-few (take i ms) r (s .small)) in
@@ -191,8 +191,7 @@ pub ends : (p : Terms) (t : Table) (i : ℕ) (ms : List Measure) (last : Measure
     → Stands p t i ms last → length t ≤ i → 0 < length t → (check p t ≡ None) × Gauge (formula t) (depth t) last
 unfolding first-fault
 ends p t i ms last b s h l =
-    let e : take i t ≡ t = take-all i t h in
-    (
+    let e : take i t ≡ t = take-all i t h in (
       checked-records p t b ∙ (sym (s .rest) ∙ at-drop-all (first-fault p (depths i t)) t i h),
       subst (λ (u : Table). Gauge (formula u) (depth u) last) e (s .latest (omega arith)),
     )

@@ -4,6 +4,8 @@ ghost use Prim.Native.Nat.{ℕ, _<_, _≤_};
 ghost use lib.ListN.{length, take};
 ghost use Rattle.knowledge.specs.Plans.{Planned, Plan-in-words, sight-of};
 ghost use Rattle.knowledge.specs.Seats.{all-within, Seated};
+use super::MOST_FACTS;
+use super::MOST_PARTIES;
 use super::Party;
 use super::Plan;
 use crate::fault::Cause;
@@ -17,15 +19,19 @@ impl Plan {
         ensures words { λ _. ⌜ Plan-in-words ⌝ }
     {
         plan_in_words();
-        if facts < 1 || facts > 40 || !all_within(facts, sights) {
+        if facts < 1 || facts > MOST_FACTS || !all_within(facts, sights) {
             return Err(Fault::in_matter(Cause::Fact));
         }
         let count = sights.len();
-        if count < 1 || count > 8 {
+        if count < 1 || count > MOST_PARTIES {
             return Err(Fault::in_matter(Cause::Party));
         }
         let parties = seats(sights);
-        Ok(Plan { facts, count, parties })
+        Ok(Plan {
+            facts,
+            count,
+            parties,
+        })
     }
 
     // How many facts there are.
@@ -57,8 +63,7 @@ impl Plan {
 // What is refused, in words; it computes nothing.
 fn plan_in_words()
     ensures { λ _. ⌜ Plan-in-words ⌝ }
-{
-}
+{}
 
 // Whether no sight has a fact past `last`.
 fn all_within(last: usize, sights: &[FactSet]) -> bool
@@ -73,11 +78,13 @@ fn all_within(last: usize, sights: &[FactSet]) -> bool
 }
 
 // The parties with these sights, and others that see nothing.
-fn seats(sights: &[FactSet]) -> [Party; 8]
+fn seats(sights: &[FactSet]) -> [Party; MOST_PARTIES]
     requires { ⌜ length (now sights) ≤ 8 ⌝ }
     ensures { λ r. ⌜ Seated (now (sights .entry)) r ⌝ }
 {
-    let mut parties = [Party { sight: FactSet::none() }; 8];
+    let mut parties = [Party {
+        sight: FactSet::none(),
+    }; MOST_PARTIES];
     for (i, sight) in sights.iter().enumerate() {
         parties[i] = Party { sight: *sight };
     }

@@ -17,6 +17,6 @@ returns-then-a-place c =
 pub returns-else-a-place : need.returns-else-a-place
 returns-else-a-place c =
     let short : length (take (c .args .place) (c .args .earlier .now)) ≤ c .in-Some .a = simp length-take (omega arith) in
-    c .unmeasured .ensures
+    c .unmeasured-else-a-place .ensures
     ∙ (sym (getD-past (take (c .args .place) (c .args .earlier .now)) (c .in-Some .a) unmeasured short)
     ∙ ap (λ (o : Option ℕ). child-of (take (c .args .place) (c .args .earlier .now)) o) (sym (c .in-Some .is)))

@@ -10,10 +10,18 @@ use Rattle.knowledge.proofs.plan.Plan.new.Needs as need
 pub ghost-result : need.ghost-result
 ghost-result c = (
   omega arith,
-  (omega arith,
-  (omega arith,
-  (omega arith,
-  ((λ k h. subst (λ (p : Party). T (is-within (c .args .facts) (p .sight))) (sym (c .seats-parties .ensures .each k h))
-    (each-within (c .args .facts) (c .args .sights .now) (sym (c .if-not-all-within .ensures tt)) k)),
-  tt)))),
+  (
+    omega arith,
+    (
+      omega arith,
+      (
+        omega arith,
+        (
+          (λ k h. subst (λ (p : Party). T (is-within (c .args .facts) (p .sight))) (sym (c .seats-parties .ensures .each k h))
+              (each-within (c .args .facts) (c .args .sights .now) (sym (c .if-not-all-within .ensures tt)) k)),
+          tt,
+        ),
+      ),
+    ),
+  ),
 )
