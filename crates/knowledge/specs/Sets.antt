@@ -2,6 +2,7 @@
 use mathlib.Core.Path.{_≡_}
 use mathlib.Core.Bool.{Bool, true, false, _&&_, _||_}
 use mathlib.Core.List.{List, [], _∷_}
+use mathlib.Core.Logic.{_↔_}
 use Prim.Native.Nat.{ℕ, _-_, _/_, _%_, _^_, _≤_, _<_}
 use lib.Dec.{T, eqb, leb, ltb}
 use Rattle.std.specs.declared.result.Result.{Result}
@@ -43,6 +44,10 @@ Present parties g = ((i : ℕ) × T (in-group g i)) × ((i : ℕ) → T (in-grou
 -- whether the group has a member, and only members below the number of parties, which its bits tell
 abbrev pub is-present : ℕ → Group → Bool
 is-present parties g = ltb 0 (g .bits) && ltb (g .bits) (2 ^ parties)
+
+-- the bits tell
+abbrev pub Group-in-words : Type 0
+Group-in-words = (parties : ℕ) (g : Group) → T (is-present parties g) ↔ Present parties g
 
 -- whether a number is in a list
 abbrev pub listed : ℕ → List ℕ → Bool

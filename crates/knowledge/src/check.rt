@@ -2,8 +2,8 @@
 ghost use mathlib.Core.Bool.{true, false};
 ghost use mathlib.Core.Path.{_≡_};
 ghost use Rattle.knowledge.specs.tables.Breaches.{Check-in-words};
-ghost use Rattle.knowledge.specs.tables.Check.{check, passed};
-ghost use Rattle.knowledge.specs.tables.Measures.{Mentions};
+ghost use Rattle.knowledge.specs.tables.Check.{check};
+ghost use Rattle.knowledge.specs.tables.Questions.{passed, Mentions};
 ghost use Rattle.knowledge.specs.Plans.{terms-of};
 ghost use Rattle.knowledge.specs.tables.Tables.{depth, need};
 use crate::fault::Fault;

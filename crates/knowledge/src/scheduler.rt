@@ -2,7 +2,7 @@
 ghost use mathlib.Core.Bool.{false};
 ghost use Rattle.knowledge.specs.Plans.{terms-of};
 ghost use Rattle.knowledge.specs.tables.Check.{check};
-ghost use Rattle.knowledge.specs.tables.Measures.{Movable};
+ghost use Rattle.knowledge.specs.tables.Questions.{Movable};
 ghost use Rattle.knowledge.specs.truth.Rules.{Opens-answered, Opens-settled, Calls-answered, Answers-settled};
 ghost use Rattle.knowledge.specs.truth.Runs.{Runs-agree};
 use crate::check::mentions_knowledge;

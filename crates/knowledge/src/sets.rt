@@ -4,7 +4,7 @@ ghost use mathlib.Core.Bool.{Bool, _&&_};
 ghost use Prim.Native.Nat.{ℕ, _+_, _-_, _^_, _<_, _≤_};
 ghost use lib.Dec.{leb, ltb};
 ghost use Rattle.knowledge.specs.Faults.{in-matter};
-ghost use Rattle.knowledge.specs.Sets.{has, in-facts, in-group, no-facts, is-within, is-present, Collected, Facts-collected, Members-collected};
+ghost use Rattle.knowledge.specs.Sets.{has, in-facts, in-group, no-facts, is-within, is-present, Group-in-words, Collected, Facts-collected, Members-collected};
 use crate::fault::Cause;
 use crate::fault::Fault;
 use crate::plan::MOST_FACTS;
@@ -71,11 +71,18 @@ impl Group {
 
     // Whether there is a member, and each is below the number of parties.
     pub fn is_present(self, parties: usize) -> bool
-        ensures { λ r. ⌜ r ≡ is-present parties self ⌝ }
+        ensures value { λ r. ⌜ r ≡ is-present parties self ⌝ }
+        ensures words { λ _. ⌜ Group-in-words ⌝ }
     {
+        group_in_words();
         self.bits != 0 && below(self.bits, parties)
     }
 }
+
+// What it is for a group to be present, in words; it computes nothing.
+fn group_in_words()
+    ensures { λ _. ⌜ Group-in-words ⌝ }
+{}
 
 // Whether bit k is set, for every k.
 fn bit(bits: u64, k: usize) -> bool

@@ -16,7 +16,8 @@ use Rattle.knowledge.specs.declared.fault.Fault.{Fault}
 use Rattle.knowledge.specs.declared.table.Record.{Record}
 use Rattle.knowledge.specs.Faults.{in-table}
 use Rattle.knowledge.specs.Sets.{between}
-use Rattle.knowledge.specs.tables.Check.{Terms, bad-fact, bad-party, is-modal, record-fault, first-fault, check, passed}
+use Rattle.knowledge.specs.tables.Check.{Terms, bad-fact, bad-party, is-modal, record-fault, first-fault, check}
+use Rattle.knowledge.specs.tables.Questions.{passed}
 use Rattle.knowledge.specs.tables.Tables.{Table, depth-of, family}
 use Rattle.knowledge.proofs.Logic.{some-not-none, failed}
 use Rattle.knowledge.proofs.tables.Standing.{outcome, first-decides}

@@ -7,8 +7,6 @@ use lib.Dec.{leb, ltb}
 use lib.ListN.{length}
 use Rattle.std.specs.declared.option.Option.{Option}
 use Rattle.std.specs.declared.option.Option.the-variants.{Some, None}
-use Rattle.std.specs.declared.result.Result.{Result}
-use Rattle.std.specs.declared.result.Result.the-variants.{Ok, Err}
 use Rattle.knowledge.specs.declared.fault.Cause.{Cause}
 use Rattle.knowledge.specs.declared.fault.Cause.the-variants as cause
 use Rattle.knowledge.specs.declared.fault.Fault.{Fault}
@@ -91,8 +89,3 @@ first-fault p depths (r ∷ rs) =
 -- the check of a table: its length, which is 1 to 256, then the first faulty record
 unfoldable pub check : Terms → Table → Option Fault
 check p t = cond (between 1 256 (length t)) (first-fault p [] t) (Some (in-table cause.Nodes 0))
-
--- the answer of a call that first checks a table: a value, or the check's refusal
-abbrev pub passed : {A : Type 0} → Option Fault → A → Result A Fault
-passed None a = Ok a
-passed (Some f) a = Err f

@@ -1,5 +1,5 @@
 -- What is kept of the records of a table while it is checked.
-use mathlib.Core.Bool.{Bool, true, false, not, _||_}
+use mathlib.Core.Bool.{Bool, true, false, _||_}
 use mathlib.Core.List.{List}
 use mathlib.Core.Logic.{_↔_}
 use mathlib.Core.Path.{_≡_}
@@ -71,13 +71,3 @@ Small limit ms = (k : ℕ) → (getD ms k unmeasured .tells ≤ getD ms k unmeas
 abbrev pub Surveyed : Option Fault → Table → Result Measure Fault → Type 0
 Surveyed verdict t (Ok m) = (verdict ≡ None) × Gauge (formula t) (depth t) m
 Surveyed verdict t (Err f) = verdict ≡ Some f
-
--- how the question ends whether a table mentions knowledge
-abbrev pub Mentions : Option Fault → Table → Result Bool Fault → Type 0
-Mentions verdict t (Ok says) = (verdict ≡ None) × (T says ↔ Mentions-knowledge (formula t))
-Mentions verdict t (Err f) = verdict ≡ Some f
-
--- how the question ends whether a notice may change places: it may not exactly if it mentions knowledge
-abbrev pub Movable : Option Fault → Table → Result Bool Fault → Type 0
-Movable verdict t (Ok says) = (verdict ≡ None) × (T (not says) ↔ Mentions-knowledge (formula t))
-Movable verdict t (Err f) = verdict ≡ Some f
