@@ -1,8 +1,8 @@
 -- The sights of a plan's parties.
-use mathlib.Core.Path.{_≡_, refl, sym, subst}
+use mathlib.Core.Path.{_≡_, sym, subst}
 use mathlib.Core.Bool.{Bool, true, false, _&&_}
 use mathlib.Core.List.{List, [], _∷_}
-use Prim.Native.Nat.{ℕ, zero, suc, _^_, _<_}
+use Prim.Native.Nat.{ℕ, zero, suc, _^_}
 use lib.Dec.{T, lt→ltb}
 use lib.ListN.{getD}
 use Rattle.std.proofs.shelf.Bits.{pow-pos}

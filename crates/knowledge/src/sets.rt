@@ -1,7 +1,7 @@
 // Sets of facts and of parties.
 ghost use mathlib.Core.Path.{_≡_};
-ghost use mathlib.Core.Bool.{Bool, _&&_};
-ghost use Prim.Native.Nat.{ℕ, _+_, _-_, _^_, _<_, _≤_};
+ghost use mathlib.Core.Bool.{_&&_};
+ghost use Prim.Native.Nat.{_+_, _-_, _^_, _<_, _≤_};
 ghost use lib.Dec.{leb, ltb};
 ghost use Rattle.knowledge.specs.Faults.{in-matter};
 ghost use Rattle.knowledge.specs.Sets.{has, in-facts, in-group, no-facts, is-within, is-present, Group-in-words, Collected, Facts-collected, Members-collected};

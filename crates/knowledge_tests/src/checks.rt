@@ -2,9 +2,7 @@
 use crate::tables::*;
 use knowledge::check::check;
 use knowledge::check::check_law;
-use knowledge::fault::Fault;
 use knowledge::fault::FaultDebug;
-use knowledge::plan::Plan;
 use knowledge::sets::Group;
 use knowledge::table::Kind;
 use knowledge::table::Record;

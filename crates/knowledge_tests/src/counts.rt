@@ -3,11 +3,9 @@ use crate::tables::*;
 use knowledge::check::depth;
 use knowledge::check::mentions_knowledge;
 use knowledge::check::tell_count;
-use knowledge::fault::Fault;
 use knowledge::fault::FaultDebug;
 use knowledge::sets::Group;
 use knowledge::table::Kind;
-use knowledge::table::Record;
 use std::test::*;
 
 #[test]

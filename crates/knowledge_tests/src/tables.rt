@@ -1,7 +1,5 @@
 // Records and small tables to test with.
-use knowledge::fault::Cause;
 use knowledge::fault::Fault;
-use knowledge::fault::FaultDebug;
 use knowledge::plan::Plan;
 use knowledge::sets::FactSet;
 use knowledge::sets::Group;
@@ -10,27 +8,27 @@ use knowledge::table::Kind;
 use knowledge::table::Record;
 
 // Two facts; alice sees the first, bob the second.
-pub fn two_by_two() -> Result<Plan, Fault> {
+pub(crate) fn two_by_two() -> Result<Plan, Fault> {
     Plan::new(2, &[FactSet::of(&[1])?, FactSet::of(&[2])?])
 }
 
-pub fn of(kind: Kind) -> Record {
+pub(crate) fn of(kind: Kind) -> Record {
     Record { kind }
 }
 
-pub fn top() -> Record {
+pub(crate) fn top() -> Record {
     of(Kind::Top)
 }
 
-pub fn fact(number: usize) -> Record {
+pub(crate) fn fact(number: usize) -> Record {
     of(Kind::Fact { number })
 }
 
-pub fn not(body: usize) -> Record {
+pub(crate) fn not(body: usize) -> Record {
     of(Kind::Not { body })
 }
 
-pub fn and(left: usize, right: usize) -> Record {
+pub(crate) fn and(left: usize, right: usize) -> Record {
     of(Kind::Binary {
         connective: Connective::And,
         left,
@@ -38,12 +36,12 @@ pub fn and(left: usize, right: usize) -> Record {
     })
 }
 
-pub fn knows(party: usize, body: usize) -> Record {
+pub(crate) fn knows(party: usize, body: usize) -> Record {
     of(Kind::Knows { party, body })
 }
 
 // The kinds of one child, built on a record: with a party, then with a group.
-pub fn singles(party: usize, group: Group, body: usize) -> [Record; 5] {
+pub(crate) fn singles(party: usize, group: Group, body: usize) -> [Record; 5] {
     [
         not(body),
         knows(party, body),
@@ -54,7 +52,7 @@ pub fn singles(party: usize, group: Group, body: usize) -> [Record; 5] {
 }
 
 // The kinds of two children, built on two records.
-pub fn doubles(group: Group, first: usize, second: usize) -> [Record; 5] {
+pub(crate) fn doubles(group: Group, first: usize, second: usize) -> [Record; 5] {
     [
         and(first, second),
         of(Kind::Post {
@@ -79,7 +77,7 @@ pub fn doubles(group: Group, first: usize, second: usize) -> [Record; 5] {
 }
 
 // A refusal by its number and its record, and 0 where there is none.
-pub fn refusal(answer: Result<(), Fault>) -> (u8, usize) {
+pub(crate) fn refusal(answer: Result<(), Fault>) -> (u8, usize) {
     match answer {
         Ok(()) => (0, 0),
         Err(fault) => (fault.cause.number(), fault.place),

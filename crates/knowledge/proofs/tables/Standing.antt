@@ -1,14 +1,13 @@
 -- Where the survey of a table stands between two records.
-use mathlib.Core.Bool.{Bool, true, false, cond}
+use mathlib.Core.Bool.{true, false}
 use mathlib.Core.List.{List, [], _∷_, _++_}
-use mathlib.Core.Logic.{_≢_, Iff·rfl}
+use mathlib.Core.Logic.{Iff·rfl}
 use mathlib.Core.Path.{_≡_, refl, sym, ap, _∙_, subst}
 use Prim.Native.Nat.{ℕ, zero, suc, _+_, _≤_, _<_}
-use native.Mathlib.Decide.{decLt}
 use native.Mathlib.Omega.{arith}
 use lib.Dec.{ltb}
 use lib.ListN.{length, getD, set, take, drop}
-use Rattle.std.proofs.shelf.Lists.{at-drop-more, at-drop-all, take-all, take-more, take-more-set, length-set, length-take-le, length-push, getD-push, getD-past, getD-append-left}
+use Rattle.std.proofs.shelf.Lists.{at-drop-more, at-drop-all, take-all, take-more, take-more-set, length-set, length-take-le}
 use Rattle.std.proofs.shelf.Tests.{ltb-false}
 use Rattle.std.specs.declared.option.Option.{Option}
 use Rattle.std.specs.declared.option.Option.the-variants.{Some, None}

@@ -1,8 +1,8 @@
 -- What the records of a table measure.
 use mathlib.Core.Bool.{Bool, true, false, _||_}
-use mathlib.Core.List.{List, [], _∷_, _++_, foldr}
-use mathlib.Core.Logic.{_⊎_, inl, inr, _↔_, Iff·rfl, Iff·trans, Iff·symm}
-use mathlib.Core.Path.{_≡_, refl, sym, ap, _∙_, subst}
+use mathlib.Core.List.{List, foldr}
+use mathlib.Core.Logic.{_⊎_, inl, inr, _↔_, Iff·rfl, Iff·trans}
+use mathlib.Core.Path.{refl}
 use Prim.Native.Nat.{ℕ, _+_, _≤_, max}
 use native.Mathlib.Omega.{arith}
 use lib.Dec.{T}
@@ -11,8 +11,8 @@ use Rattle.knowledge.specs.declared.measure.Measure.{Measure}
 use Rattle.knowledge.specs.declared.table.Kind.{Kind}
 use Rattle.knowledge.specs.declared.table.Kind.the-variants.{Top, Bottom, Fact, Not, Binary, Knows, KnowsWhether, Shared, SharedWhether, Post, PostWhether, Tell, TellWhether}
 use Rattle.knowledge.specs.declared.table.Record.{Record}
-use Rattle.knowledge.specs.tables.Formulas.{Formula, bottom, Mentions-knowledge, tell-count}
-use Rattle.knowledge.specs.tables.Measures.{unmeasured, combined, measure-of, Gauge, Gauges, Small}
+use Rattle.knowledge.specs.tables.Formulas.{Formula, bottom, Mentions-knowledge}
+use Rattle.knowledge.specs.tables.Measures.{unmeasured, measure-of, Gauge, Gauges, Small}
 use Rattle.knowledge.specs.tables.Tables.{formula-of, depth-of, built, children}
 use Rattle.knowledge.proofs.Logic.{⊎-iff}
 use Rattle.knowledge.proofs.Tests.{T-or}

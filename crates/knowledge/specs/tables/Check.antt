@@ -14,7 +14,6 @@ use Rattle.knowledge.specs.declared.table.Family.{Family}
 use Rattle.knowledge.specs.declared.table.Family.the-variants.{Boolean, Knowing, Posting, Telling}
 use Rattle.knowledge.specs.declared.table.Kind.{Kind}
 use Rattle.knowledge.specs.declared.table.Kind.the-variants.{Top, Bottom, Fact, Not, Binary, Knows, KnowsWhether, Shared, SharedWhether, Post, PostWhether, Tell, TellWhether}
-use Rattle.knowledge.specs.declared.table.Record.{Record}
 use Rattle.knowledge.specs.Faults.{in-table}
 use Rattle.knowledge.specs.Sets.{between, is-present}
 use Rattle.knowledge.specs.tables.Tables.{Table, children, family, depth-of}

@@ -1,7 +1,7 @@
 // Making and reading plans.
 ghost use mathlib.Core.Path.{_≡_};
-ghost use Prim.Native.Nat.{ℕ, _<_, _≤_};
-ghost use lib.ListN.{length, take};
+ghost use Prim.Native.Nat.{_≤_};
+ghost use lib.ListN.{length};
 ghost use Rattle.knowledge.specs.Plans.{Planned, Plan-in-words, sight-of};
 ghost use Rattle.knowledge.specs.Seats.{all-within, Seated};
 use super::MOST_FACTS;

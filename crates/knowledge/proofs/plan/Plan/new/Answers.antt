@@ -1,4 +1,4 @@
-use mathlib.Core.Path.{_≡_, sym, subst}
+use mathlib.Core.Path.{sym, subst}
 use lib.Dec.{T}
 use native.Mathlib.Omega.{arith}
 use Rattle.knowledge.specs.declared.plan.Party.{Party}

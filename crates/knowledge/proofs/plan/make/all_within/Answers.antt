@@ -1,9 +1,9 @@
-use mathlib.Core.Path.{_≡_, sym, _∙_, ap}
-use mathlib.Core.Bool.{Bool, true, false, _&&_}
-use lib.ListN.{getD, drop}
+use mathlib.Core.Path.{sym, _∙_, ap}
+use mathlib.Core.Bool.{Bool, _&&_}
+use lib.ListN.{drop}
 use Prim.Native.Nat.{_+_}
 use Rattle.std.proofs.shelf.Lists.{at-drop-more, at-drop-all}
-use Rattle.knowledge.specs.Sets.{no-facts, is-within}
+use Rattle.knowledge.specs.Sets.{no-facts}
 use Rattle.knowledge.specs.Seats.{all-within}
 use Rattle.knowledge.proofs.plan.make.all_within.Needs as need
 

@@ -1,12 +1,9 @@
-use mathlib.Core.List.{[]}
-use mathlib.Core.Path.{_≡_, sym, _∙_, ap}
-use Prim.Native.Nat.{_≤_, _<_}
+use mathlib.Core.Path.{sym, _∙_, ap}
 use native.Mathlib.Decide.{decLt}
 use native.Mathlib.Omega.{arith}
 use Rattle.std.proofs.shelf.Lists.{getD-past}
 use Rattle.knowledge.specs.declared.plan.Party.{Party}
 use Rattle.knowledge.specs.declared.sets.FactSet.{FactSet}
-use Rattle.knowledge.specs.Seats.{seat}
 use Rattle.knowledge.specs.Sets.{no-facts}
 use Rattle.knowledge.proofs.plan.make.seats.Needs as need
 
