@@ -3,7 +3,7 @@ ghost use mathlib.Core.Bool.{false};
 ghost use Rattle.knowledge.specs.Plans.{terms-of};
 ghost use Rattle.knowledge.specs.tables.Check.{check};
 ghost use Rattle.knowledge.specs.tables.Questions.{Movable};
-ghost use Rattle.knowledge.specs.truth.Rules.{Opens-answered, Opens-settled, Calls-answered, Answers-settled};
+ghost use Rattle.knowledge.specs.truth.Rules.{Opens-answered, Opens-settled, Opens-lawful, Calls-answered, Answers-settled};
 ghost use Rattle.knowledge.specs.truth.Runs.{Runs-agree};
 use crate::check::mentions_knowledge;
 use crate::fault::Fault;
@@ -16,7 +16,7 @@ use crate::table::Record;
 pub fn may_change_places(plan: &Plan, table: &[Record]) -> Result<bool, Fault>
     ensures value { λ r. ⌜ Movable (check (terms-of false (now (plan .entry))) (now (table .entry))) (now (table .entry)) r ⌝ }
     ensures agree { λ _. ⌜ Runs-agree ⌝ }
-    ensures opens { λ _. ⌜ Opens-answered × Opens-settled ⌝ }
+    ensures opens { λ _. ⌜ Opens-answered × Opens-settled × Opens-lawful ⌝ }
     ensures calls { λ _. ⌜ Calls-answered × Answers-settled ⌝ }
 {
     law_over_runs();
@@ -27,6 +27,6 @@ pub fn may_change_places(plan: &Plan, table: &[Record]) -> Result<bool, Fault>
 // The law over runs, with what it rests on; it computes nothing.
 fn law_over_runs()
     ensures agree { λ _. ⌜ Runs-agree ⌝ }
-    ensures opens { λ _. ⌜ Opens-answered × Opens-settled ⌝ }
+    ensures opens { λ _. ⌜ Opens-answered × Opens-settled × Opens-lawful ⌝ }
     ensures calls { λ _. ⌜ Calls-answered × Answers-settled ⌝ }
 {}

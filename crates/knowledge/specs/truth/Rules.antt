@@ -16,7 +16,8 @@ use Rattle.knowledge.specs.Faults.{in-matter, in-board}
 use Rattle.knowledge.specs.Sets.{in-facts, is-present, listed, all-between}
 use Rattle.knowledge.specs.tables.Tables.{Table, formula, need}
 use Rattle.knowledge.specs.tables.Check.{Terms, check}
-use Rattle.knowledge.specs.truth.Situations.{Setting, Keeps-law, Notice, posted, told-to, Situation, Holds, after-all, opened}
+use Rattle.knowledge.specs.truth.Truth.{start}
+use Rattle.knowledge.specs.truth.Situations.{Setting, Keeps-law, Lawful, Notice, posted, told-to, Situation, Holds, after-all, opened}
 
 -- what a matter relies on of its board: the width, and how many places never fill it
 pub record Room : Type 0 where
@@ -147,6 +148,10 @@ Opens-answered = (o : Opening) (given : List ℕ) → (r : Answer) × Open-answe
 abbrev pub Opens-settled : Type 0
 Opens-settled =
     (o : Opening) (given : List ℕ) (r r′ : Answer) → ¬ Unsure o → Open-answered o given r → Open-answered o given r′ → r ≡ r′
+
+-- the facts of a taken opening are a world of the start
+abbrev pub Opens-lawful : Type 0
+Opens-lawful = (o : Opening) (given : List ℕ) → Gives given (o .facts) → Open-answered o given taken → Lawful (o .setting) (start (o .facts))
 
 -- every call gets an answer
 abbrev pub Calls-answered : Type 0
