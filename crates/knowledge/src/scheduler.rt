@@ -4,7 +4,7 @@ ghost use Rattle.knowledge.specs.Plans.{terms-of};
 ghost use Rattle.knowledge.specs.tables.Check.{check};
 ghost use Rattle.knowledge.specs.tables.Questions.{Movable};
 ghost use Rattle.knowledge.specs.truth.Rules.{Opens-answered, Opens-settled, Opens-lawful, Calls-answered, Answers-settled};
-ghost use Rattle.knowledge.specs.truth.Runs.{Runs-agree};
+ghost use Rattle.knowledge.specs.truth.Runs.{Runs-agree, Runs-sound};
 use crate::check::mentions_knowledge;
 use crate::fault::Fault;
 use crate::plan::Plan;
@@ -12,10 +12,11 @@ use crate::table::Record;
 
 // Whether a notice may change places with others that may: it does not mention knowledge. The law over runs says
 // what that is worth: two matters that got the same such notices in two orders give the same answers. It speaks of
-// the answers that the rules allow, and those exist for every call, and are one within what a board surely holds.
+// the answers that the rules allow, and those exist for every call, and are one within what a board surely holds; and
+// after every run the model is one of S5 with the actual world in it.
 pub fn may_change_places(plan: &Plan, table: &[Record]) -> Result<bool, Fault>
     ensures value { λ r. ⌜ Movable (check (terms-of false (now (plan .entry))) (now (table .entry))) (now (table .entry)) r ⌝ }
-    ensures agree { λ _. ⌜ Runs-agree ⌝ }
+    ensures agree { λ _. ⌜ Runs-agree × Runs-sound ⌝ }
     ensures opens { λ _. ⌜ Opens-answered × Opens-settled × Opens-lawful ⌝ }
     ensures calls { λ _. ⌜ Calls-answered × Answers-settled ⌝ }
 {
@@ -26,7 +27,7 @@ pub fn may_change_places(plan: &Plan, table: &[Record]) -> Result<bool, Fault>
 
 // The law over runs, with what it rests on; it computes nothing.
 fn law_over_runs()
-    ensures agree { λ _. ⌜ Runs-agree ⌝ }
+    ensures agree { λ _. ⌜ Runs-agree × Runs-sound ⌝ }
     ensures opens { λ _. ⌜ Opens-answered × Opens-settled × Opens-lawful ⌝ }
     ensures calls { λ _. ⌜ Calls-answered × Answers-settled ⌝ }
 {}

@@ -10,14 +10,15 @@ use Rattle.knowledge.specs.tables.Formulas.{Formula}
 use Rattle.knowledge.specs.tables.Tables.{Table, formula}
 use Rattle.knowledge.specs.Lists.{Each}
 use Rattle.knowledge.specs.truth.Truth.{start}
-use Rattle.knowledge.specs.truth.Situations.{Setting, sight, Agree, starting, Notice, posted, told-to, Holds, after-all, opened, stacked}
+use Rattle.knowledge.specs.truth.Situations.{Setting, sight, Agree, starting, Notice, posted, told-to, Sound, Holds, after-all, opened, stacked}
 use Rattle.knowledge.specs.truth.Rules.{Room, Opening, Answer, said, situation, Call, posts, tells, queries, Allowed, faulty, crowded, filled, answered}
-use Rattle.knowledge.specs.truth.Runs.{Event, is-taken, added, taken-in, Run, opens, next, notices, asked, fates, Plain, Asks-what-is-known-by, Must-agree, reordered, unseen, stacking, Runs-agree}
+use Rattle.knowledge.specs.truth.Runs.{Event, is-taken, added, taken-in, Run, opens, next, notices, asked, fates, Plain, Asks-what-is-known-by, Must-agree, reordered, unseen, stacking, Runs-sound, Runs-agree}
 use Rattle.knowledge.proofs.Logic.{same-test}
 use Rattle.knowledge.proofs.truth.Stacks.{stacked-++, after-all-++, after-before}
 use Rattle.knowledge.proofs.truth.Asked.{asks-says}
 use Rattle.knowledge.proofs.truth.Reordering.{permuted, settled}
-use Rattle.knowledge.proofs.truth.Knowing.{taken-by-fate, fates-tell, starting-classes, known-stays}
+use Rattle.knowledge.proofs.truth.Openings.{opened-lawful}
+use Rattle.knowledge.proofs.truth.Knowing.{taken-by-fate, fates-tell, starting-classes, after-sound, known-stays}
 
 -- a query after a call, and the query with what the call added stacked before it, have one truth
 one-unfolds : (o : Opening) (ns : List Notice) (c : Call) (r : Answer) → Allowed o ns c r → (q : Formula)
@@ -40,6 +41,24 @@ unfolds o es (next {es = es′} c r run a) q =
     let ms = added (is-taken r) c in
     let s = opened (o .setting) (o .facts) in
     rw (stacked-++ ns ms q, after-all-++ s ns ms) (Iff·trans (one-unfolds o ns c r a q) (unfolds o es′ run (stacked ms q)))
+
+-- a call leaves a sound situation
+one-sound : (o : Opening) (ns : List Notice) (c : Call) (r : Answer) → Allowed o ns c r → Sound (situation o ns)
+    → Sound (after-all (situation o ns) (added (is-taken r) c))
+one-sound o ns c r (faulty f e) h = h
+one-sound o ns c r (crowded e x) h = h
+one-sound o ns c r (filled sheet s e x y) h = h
+one-sound o ns (posts t) r (answered true e x y) h = after-sound (situation o ns) (posted (formula t)) h (y .0 tt)
+one-sound o ns (posts t) r (answered false e x y) h = h
+one-sound o ns (tells g t) r (answered true e x y) h = after-sound (situation o ns) (told-to g (formula t)) h (y .0 tt)
+one-sound o ns (tells g t) r (answered false e x y) h = h
+one-sound o ns (queries t) r (answered holds e x y) h = h
+
+-- so does every run
+pub runs-sound : Runs-sound
+runs-sound o es (opens given g l) = (starting-classes (o .setting), opened-lawful o given g l)
+runs-sound o es (next {es = es′} c r run a) =
+    rw (after-all-++ (opened (o .setting) (o .facts)) (taken-in es′) (added (is-taken r) c)) (one-sound o (taken-in es′) c r a (runs-sound o es′ run))
 
 -- the answer to a query is the truth
 pub truthful : (o : Opening) (ns : List Notice) (q : Table) (holds : Bool) → Allowed o ns (queries q) (said holds)

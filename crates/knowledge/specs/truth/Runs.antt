@@ -14,7 +14,7 @@ use Rattle.knowledge.specs.tables.Formulas.{Mentions-knowledge}
 use Rattle.knowledge.specs.tables.Tables.{Table, last-record, formula}
 use Rattle.knowledge.specs.tables.Check.{check}
 use Rattle.knowledge.specs.Lists.{Each}
-use Rattle.knowledge.specs.truth.Situations.{Setting, sight, Agree, Notice, posted, told-to, Holds, stacked}
+use Rattle.knowledge.specs.truth.Situations.{Setting, sight, Agree, Notice, posted, told-to, Sound, Holds, stacked}
 use Rattle.knowledge.specs.truth.Rules.{Room, Opening, Answer, taken, said, refused, terms, Gives, Open-answered, situation, Call, posts, tells, queries, table-of, Allowed}
 
 -- one call with its answer
@@ -50,6 +50,10 @@ taken-in (e ∷ es) = taken-in es ++ added (is-taken (e .answer)) (e .call)
 pub data Run (o : Opening) : List Event → Type 0 where
   opens : (given : List ℕ) → Gives given (o .facts) → Open-answered o given taken → Run o []
   next : {es : List Event} (c : Call) (r : Answer) → Run o es → Allowed o (taken-in es) c r → Run o (record { call = c; answer = r } ∷ es)
+
+-- after every run the situation is sound
+abbrev pub Runs-sound : Type 0
+Runs-sound = (o : Opening) (es : List Event) → Run o es → Sound (situation o (taken-in es))
 
 -- the events of a history that are notices, taken or refused
 abbrev pub notices : List Event → List Event

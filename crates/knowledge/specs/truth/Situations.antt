@@ -9,7 +9,7 @@ use Rattle.knowledge.specs.declared.sets.Group.{Group}
 use Rattle.knowledge.specs.Sets.{in-facts, no-facts, Within}
 use Rattle.knowledge.specs.tables.Formulas.{Formula, post, tell}
 use Rattle.knowledge.specs.tables.Tables.{Table, formula}
-use Rattle.knowledge.specs.truth.Truth.{World, start, copy, told, facts-of, Model, kept, copies, True}
+use Rattle.knowledge.specs.truth.Truth.{World, start, copy, told, facts-of, Model, Classes, kept, copies, True}
 
 -- what the matters of one plan share: how many facts there are, what each party sees of them, and the law
 pub record Setting : Type 0 where
@@ -56,6 +56,10 @@ content (told-to g a) = a
 pub record Situation : Type 1 where
   pub model : Model
   pub actual : World
+
+-- the model is one of S5, and the actual world is one of its worlds, so that what a party knows is true
+abbrev pub Sound : Situation → Type 0
+Sound s = Classes (s .model) × s .model .present (s .actual)
 
 -- the formula is true at the actual world
 abbrev pub Holds : Situation → Formula → Type 0

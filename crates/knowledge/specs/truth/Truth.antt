@@ -30,6 +30,12 @@ pub record Model : Type 1 where
   pub present : World → Type 0
   pub alike : ℕ → World → World → Type 0
 
+-- What a party cannot tell apart makes classes of worlds, which is what S5 asks.
+pub record Classes (m : Model) : Type 0 where
+  pub same : (i : ℕ) (w : World) → m .present w → m .alike i w w
+  pub turn : (i : ℕ) (w v : World) → m .alike i w v → m .alike i v w
+  pub join : (i : ℕ) (w v u : World) → m .alike i w v → m .alike i v u → m .alike i w u
+
 -- only the worlds where a is true are kept
 abbrev pub kept : Model → (World → Type 0) → Model
 kept m a = record { present = λ w. m .present w × a w; alike = m .alike }
