@@ -2,12 +2,14 @@
 // section 11.
 ghost use mathlib.Core.Path.{_≡_};
 ghost use Rattle.knowledge.specs.truth.Script.{Script-runs};
-ghost use Rattle.knowledge.specs.truth.Verdicts.{answers, Verdicts-true};
+ghost use Rattle.knowledge.specs.truth.Verdicts.{answers, Sets-as-listed, Verdicts-true};
 
-// The answers to the ten worked queries, each of which is the truth of its query; and the example script is a run.
+// The answers to the ten worked queries, each of which is the truth of its query. The sets in them are as they are
+// listed, and the example script is a run.
 pub fn worked_verdicts() -> [bool; 10]
     ensures value { λ r. ⌜ r ≡ answers ⌝ }
     ensures truth { λ _. ⌜ Verdicts-true ⌝ }
+    ensures sets { λ _. ⌜ Sets-as-listed ⌝ }
     ensures script { λ _. ⌜ Script-runs ⌝ }
 {
     truth_of_verdicts();
@@ -25,8 +27,9 @@ pub fn worked_verdicts() -> [bool; 10]
     ]
 }
 
-// That the ten answers are true and the script is a run; it computes nothing.
+// That the ten answers are true, the sets as listed and the script a run; it computes nothing.
 fn truth_of_verdicts()
     ensures truth { λ _. ⌜ Verdicts-true ⌝ }
+    ensures sets { λ _. ⌜ Sets-as-listed ⌝ }
     ensures script { λ _. ⌜ Script-runs ⌝ }
 {}

@@ -24,6 +24,7 @@ pub struct Cost {
     tells: usize,
 }
 
+// The report on a law or a notice.
 #[derive(Clone, Copy)]
 pub enum Report {
     // a law

@@ -42,18 +42,18 @@ starting-classes s = record {
 kept-classes : (m : Model) (P : World → Type 0) → Classes m → Classes (kept m P)
 kept-classes m P c = record { same = λ i w p. c .same i w (p .0); turn = c .turn; join = c .join }
 
--- after a tell a world is not told from itself
+-- after a tell nobody tells a world from itself
 copies-same : (m : Model) → Classes m → (g : Group) (P : World → Type 0) (i : ℕ) (w : World) → Copied (m .present) P w → Blurred (m .alike) g i w w
 copies-same m c g P i (start f) p = absurd p
 copies-same m c g P i (copy x w) p = (λ _. refl, c .same i w (p .0))
 
--- nor one world from another where not the other from it
+-- who does not tell one world from another does not tell the other from it
 copies-turn : (m : Model) → Classes m → (g : Group) (i : ℕ) (w v : World) → Blurred (m .alike) g i w v → Blurred (m .alike) g i v w
 copies-turn m c g i (start f) v h = absurd h
 copies-turn m c g i (copy x w) (start f) h = absurd h
 copies-turn m c g i (copy x w) (copy y v) h = (λ t. sym (h .0 t), c .turn i w v (h .1))
 
--- and not telling apart goes on
+-- and what is not told apart step by step is not told apart
 copies-join : (m : Model) → Classes m → (g : Group) (i : ℕ) (w v u : World)
     → Blurred (m .alike) g i w v → Blurred (m .alike) g i v u → Blurred (m .alike) g i w u
 copies-join m c g i (start f) v u h k = absurd h

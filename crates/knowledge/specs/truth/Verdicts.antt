@@ -2,6 +2,7 @@
 use mathlib.Core.Bool.{Bool, true, false}
 use mathlib.Core.List.{List, [], _∷_, map}
 use mathlib.Core.Logic.{_↔_}
+use mathlib.Core.Path.{_≡_}
 use Prim.Native.Nat.{ℕ, _-_, _^_}
 use lib.Bits.{bitOr}
 use lib.Dec.{T}
@@ -11,6 +12,7 @@ use Rattle.knowledge.specs.declared.table.Connective.the-variants.{And, Or}
 use Rattle.knowledge.specs.declared.table.Kind.the-variants.{Top, Fact, Binary}
 use Rattle.knowledge.specs.tables.Formulas.{Formula, bottom, fact, not, binary, knows, shared, post, tell, knows-whether, tell-whether}
 use Rattle.knowledge.specs.Lists.{Each}
+use Rattle.knowledge.specs.Sets.{in-facts, in-group, listed, all-between}
 use Rattle.knowledge.specs.truth.Situations.{Setting, Holds, opened}
 
 -- the set of the facts with these numbers
@@ -22,6 +24,12 @@ fact-set (p ∷ ps) = record { bits = bitOr (2 ^ (p - 1)) (fact-set ps .bits) }
 abbrev pub group-of : List ℕ → Group
 group-of [] = record { bits = 0 }
 group-of (i ∷ is) = record { bits = bitOr (2 ^ i) (group-of is .bits) }
+
+-- these sets have the members that are listed, and no others
+abbrev pub Sets-as-listed : Type 0
+Sets-as-listed =
+    ((n : ℕ) (ps : List ℕ) → all-between 1 n ps ≡ true → (p : ℕ) → in-facts (fact-set ps) p ≡ listed p ps)
+    × ((is : List ℕ) (i : ℕ) → in-group (group-of is) i ≡ listed i is)
 
 -- a plan with its law, the actual facts, a query, and its answer
 pub record Verdict : Type 0 where
