@@ -1,4 +1,6 @@
 // A board: a store of 64 Boolean functions, its sheets, over up to 48 variables, its places.
+#![tactic(auto)]
+
 pub mod perform;
 pub mod request;
 pub mod unmade;

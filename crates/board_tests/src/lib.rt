@@ -1,4 +1,6 @@
 // Tests of the boards: the grid and signs over it, held against plain truth tables.
+#![tactic(auto)]
+
 #[cfg(test)]
 mod compare;
 #[cfg(test)]

@@ -1,4 +1,6 @@
 // A board of truth tables.
+#![tactic(auto)]
+
 mod binds;
 mod blocks;
 mod bytes;

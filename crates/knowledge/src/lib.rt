@@ -1,4 +1,6 @@
 // What every other crate stands on: refusals, plans, formula tables, and what truth means.
+#![tactic(auto)]
+
 pub mod check;
 pub mod fault;
 mod measure;

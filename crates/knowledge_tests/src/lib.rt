@@ -1,4 +1,6 @@
 // Tests of the crate `knowledge`, at the edges of its rules.
+#![tactic(auto)]
+
 #[cfg(test)]
 mod checks;
 #[cfg(test)]

@@ -1,4 +1,6 @@
 // Writes the law of the sample matter on a board, and says of each set of facts whether it is a world.
+#![tactic(auto)]
+
 mod worlds;
 
 use board::Board;

@@ -1,5 +1,7 @@
 // Takes a sample matter through the queue's scheduler: makes its plan, checks its law and its notices,
 // and says of each notice what it needs and whether it may change places with others.
+#![tactic(auto)]
+
 mod report;
 mod sample;
 

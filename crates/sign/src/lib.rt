@@ -1,4 +1,6 @@
 // A sign: a layer over any board that keeps one mark for each sheet. A marked sheet says the opposite of the one below.
+#![tactic(auto)]
+
 mod marks;
 
 ghost use Rattle.std.specs.Prelude.{◌≡◌, ℕ, false, Some};

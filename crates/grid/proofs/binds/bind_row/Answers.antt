@@ -8,8 +8,8 @@ loop-k-init c code is = pair_none c.args.bytes.now c.args.to c.args.from c.args.
 
 pub loop-k-preserved : goal.loop-k-preserved
 loop-k-preserved c code is =
-    pair_more (c.loop-k.invariant code is) c.requires.apart c.loop-k-test.true c.join-byte-byte.result c.requires.to
-    (λ t lt. c.join-byte-byte.ensures code t is lt)
+    pair_more (c.loop-k.invariant code is) c.requires.apart c.loop-k-test.true c.join_byte-byte.result c.requires.to
+    (λ t lt. c.join_byte-byte.ensures code t is lt)
 
 pub returns : goal.returns
 returns c code is =

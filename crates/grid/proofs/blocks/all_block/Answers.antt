@@ -6,16 +6,16 @@ use Rattle.grid.proofs.blocks.all_block.Goals as goal
 
 pub returns-then-bytes-sheet : goal.returns-then-bytes-sheet
 returns-then-bytes-sheet c =
-    let xs = c.args.bytes.now in let k = c.loop-k.k in let byte = c.blank-byte-byte.result in
+    let xs = c.args.bytes.now in let k = c.loop-k.k in let byte = c.blank_byte-byte.result in
     let place = 512 * c.args.sheet + k in
-    let bits = say_all xs c.args.width c.args.sheet byte c.args.value c.requires.held c.blank-byte-byte.ensures in (
+    let bits = say_all xs c.args.width c.args.sheet byte c.args.value c.requires.held c.blank_byte-byte.ensures in (
       (λ yes. absurd (false≢true yes)),
       (λ says. absurd (c.if-bytes-sheet.true
-          (byte_ext (get_or xs place 0) byte (c.type-inv.bytes place).fits c.blank-byte-byte.type-inv (λ t lt. bits says k t (omega arith) lt)))),
+          (byte_ext (get_or xs place 0) byte (c.type_inv.bytes place).fits c.blank_byte-byte.type_inv (λ t lt. bits says k t (omega arith) lt)))),
     )
 
 pub returns : goal.returns
 returns c =
-    let xs = c.args.bytes.now in let byte = c.blank-byte-byte.result in
-    let say = all_say xs c.args.width c.args.sheet byte c.args.value c.requires.held c.blank-byte-byte.ensures in
+    let xs = c.args.bytes.now in let byte = c.blank_byte-byte.result in
+    let say = all_say xs c.args.width c.args.sheet byte c.args.value c.requires.held c.blank_byte-byte.ensures in
     ((λ yes. say (λ k lt. c.loop-k.invariant k (omega arith))), (λ says. refl))

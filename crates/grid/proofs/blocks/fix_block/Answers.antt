@@ -14,7 +14,7 @@ returns c =
       | then-value w ↦ w.code-is ∙ ap (λ (b : Bool). cond b 10 12) (sym w.if-value.true)
       | else-value w ↦ w.code-is ∙ ap (λ (b : Bool). cond b 10 12) (sym w.if-value.false)
     ] in
-    let f : State → Bool → Bool = λ s v. sheet c.deref-mut.result.now c.args.width c.args.from (with_place s c.args.place v) in
-    let done = in_words _ c.bind-block.ensures (λ s. settled c.if-value.code v (f s) code) in
-    given_back c.args.bytes.now c.deref-mut.ensures.value (Fix c.args.sheet c.args.from c.args.place v)
-    (c.bind-block.auto.bytes ∙ c.deref-mut.ensures.len) done
+    let f : State → Bool → Bool = λ s v. sheet c.deref_mut.result.now c.args.width c.args.from (with_place s c.args.place v) in
+    let done = in_words _ c.bind_block.ensures (λ s. settled c.if-value.code v (f s) code) in
+    given_back c.args.bytes.now c.deref_mut.ensures.value (Fix c.args.sheet c.args.from c.args.place v)
+    (c.bind_block.auto.bytes ∙ c.deref_mut.ensures.len) done

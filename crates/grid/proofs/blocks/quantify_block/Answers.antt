@@ -12,6 +12,6 @@ returns c =
       | in-ForAll w ↦ w.code-is ∙ ap quantifier_code (sym w.in-ForAll.is)
       | in-Exists w ↦ w.code-is ∙ ap quantifier_code (sym w.in-Exists.is)
     ] in
-    let done = in_words _ c.bind-block.ensures (λ s. quantified c.match-quantifier.code k _ _ code) in
-    given_back c.args.bytes.now c.deref-mut.ensures.value (Quantify c.args.sheet c.args.from c.args.place k)
-    (c.bind-block.auto.bytes ∙ c.deref-mut.ensures.len) done
+    let done = in_words _ c.bind_block.ensures (λ s. quantified c.match-quantifier.code k _ _ code) in
+    given_back c.args.bytes.now c.deref_mut.ensures.value (Quantify c.args.sheet c.args.from c.args.place k)
+    (c.bind_block.auto.bytes ∙ c.deref_mut.ensures.len) done

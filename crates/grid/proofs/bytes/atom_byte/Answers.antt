@@ -12,5 +12,5 @@ returns-in-1 c t lt = simp c.in-1.is (atom_1 c.args.k t lt)
 pub returns-in-2 : goal.returns-in-2
 returns-in-2 c t lt = simp c.in-2.is (atom_2 c.args.k t lt)
 
-pub returns-in-default : goal.returns-in-default
-returns-in-default c t lt = ap (λ (r : ℕ). has r t) c.whole_byte.ensures ∙ atom_past c.args.k t c.args.place lt (omega arith)
+pub returns-in_default : goal.returns-in_default
+returns-in_default c t lt = ap (λ (r : ℕ). has r t) c.whole_byte.ensures ∙ atom_past c.args.k t c.args.place lt (omega arith)

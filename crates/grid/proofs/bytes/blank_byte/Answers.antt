@@ -8,4 +8,4 @@ pub returns : goal.returns
 returns c t lt =
     let whole : has c.whole_byte.result t ≡ c.args.value =
     ap (λ (x : ℕ). has x t) c.whole_byte.ensures ∙ has_whole c.args.value t lt in
-    simp (has_and, whole, c.live-bits.ensures t lt)
+    simp (has_and, whole, c.live_bits.ensures t lt)

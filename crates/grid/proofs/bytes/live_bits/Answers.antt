@@ -13,8 +13,8 @@ returns-in-1 c t lt = rw c.in-1.is (below_eight (λ t. has 3 t ≡ ltb t 2) refl
 pub returns-in-2 : goal.returns-in-2
 returns-in-2 c t lt = rw c.in-2.is (below_eight (λ t. has 15 t ≡ ltb t 4) refl refl refl refl refl refl refl refl t lt)
 
-pub returns-in-default : goal.returns-in-default
-returns-in-default c t lt =
+pub returns-in_default : goal.returns-in_default
+returns-in_default c t lt =
     let wide : 3 ≤ c.args.width = omega arith in
     let most : 8 ≤ 2 ^ c.args.width = pow_mono wide in
     let all : ltb t (2 ^ c.args.width) ≡ true = lt-ltb _ _ (omega arith) in

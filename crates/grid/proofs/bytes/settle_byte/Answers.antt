@@ -8,7 +8,7 @@ returns-in-0 c t lt = simp (c.in-0.is, c.lowered-clear.ensures) (settle_0 c.args
 pub returns-in-1 : goal.returns-in-1
 returns-in-1 c t lt = simp (c.in-1.is, c.lowered-clear-in-1.ensures) (settle_1 c.args.byte t c.args.value lt)
 
-pub returns-in-default : goal.returns-in-default
-returns-in-default c t lt =
+pub returns-in_default : goal.returns-in_default
+returns-in_default c t lt =
     let two : c.args.place ≡ 2 = omega arith in
-    simp (two, c.lowered-clear-in-default.ensures) (settle_2 c.args.byte t c.args.value lt)
+    simp (two, c.lowered-clear-in_default.ensures) (settle_2 c.args.byte t c.args.value lt)

@@ -9,7 +9,7 @@ use Rattle.knowledge.proofs.survey.survey.Goals as goal
 pub returns-then-table-lt1 : goal.returns-then-table-lt1
 returns-then-table-lt1 c =
     let b : between 1 256 (length c.args.table.now) ≡ false = grind (arith, nat_tests) in
-    refuses_length (terms_of c.args.in_law c.args.plan.now) c.args.table.now c.in-table.result b c.in-table.ensures
+    refuses_length (terms_of c.args.in_law c.args.plan.now) c.args.table.now c.in_table.result b c.in_table.ensures
 
 pub loop-place-init : goal.loop-place-init
 loop-place-init c = begins (terms_of c.args.in_law c.args.plan.now) c.args.table.now _ c.unmeasured-last.result refl
@@ -19,15 +19,15 @@ pub returns-in-Some : goal.returns-in-Some
 returns-in-Some c =
     let b : between 1 256 (length c.args.table.now) ≡ true = grind (arith, nat_tests) in
     refuses_record (terms_of c.args.in_law c.args.plan.now) c.args.table.now c.loop-place.place c.loop-place.measures c.loop-place.last
-    c.measured-last.result c.fault-in.result c.in-Some.cause c.in-table-in-Some.result b c.loop-place.invariant c.loop-place-test.true c.measured-last.ensures
-    c.fault-in.ensures c.in-Some.is c.in-table-in-Some.ensures
+    c.measured-last.result c.fault_in.result c.in-Some.cause c.in_table-in-Some.result b c.loop-place.invariant c.loop-place-test.true c.measured-last.ensures
+    c.fault_in.ensures c.in-Some.is c.in_table-in-Some.ensures
 
 -- a record without fault
 pub loop-place-preserved : goal.loop-place-preserved
 loop-place-preserved c =
     goes_on (terms_of c.args.in_law c.args.plan.now) c.args.table.now c.loop-place.place c.loop-place.measures c.loop-place.last
-    c.measured-last.result c.fault-in.result c.loop-place.invariant c.loop-place-test.true (omega arith) c.measured-last.ensures
-    c.fault-in.ensures c.in-default.is
+    c.measured-last.result c.fault_in.result c.loop-place.invariant c.loop-place-test.true (omega arith) c.measured-last.ensures
+    c.fault_in.ensures c.in_default.is
 
 pub returns : goal.returns
 returns c =

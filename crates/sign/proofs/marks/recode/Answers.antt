@@ -4,16 +4,16 @@ use Rattle.sign.proofs.marks.recode.Goals as goal
 
 pub returns-then-code-ge-CODES : goal.returns-then-code-ge-CODES
 returns-then-code-ge-CODES c = record {
-  is = sym (recoded_high c.args.left-mark c.args.right-mark c.args.code (omega arith));
+  is = sym (recoded_high c.args.left_mark c.args.right_mark c.args.code (omega arith));
   joins = recoded_right;
 }
 
-pub returns-then-right-mark : goal.returns-then-right-mark
-returns-then-right-mark c =
-    let e = exchanges_recode c.args.left-mark c.args.right-mark c.args.code (omega arith) in
+pub returns-then-right_mark : goal.returns-then-right_mark
+returns-then-right_mark c =
+    let e = exchanges_recode c.args.left_mark c.args.right_mark c.args.code (omega arith) in
     record { is = grind arith; joins = recoded_right }
 
-pub returns-else-right-mark : goal.returns-else-right-mark
-returns-else-right-mark c =
-    let e = exchanges_recode c.args.left-mark c.args.right-mark c.args.code (omega arith) in
+pub returns-else-right_mark : goal.returns-else-right_mark
+returns-else-right_mark c =
+    let e = exchanges_recode c.args.left_mark c.args.right_mark c.args.code (omega arith) in
     record { is = grind arith; joins = recoded_right }

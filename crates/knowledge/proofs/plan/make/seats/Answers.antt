@@ -10,7 +10,7 @@ use Rattle.knowledge.proofs.plan.make.seats.Goals as goal
 abbrev seated : FactSet → Party
 seated s = record { sight = s }
 
--- past the last sight a party sees no-facts
+-- past the last sight a party sees no_facts
 pub returns : goal.returns
 returns c = record {
   eight = c.loop-i.invariant.0;
