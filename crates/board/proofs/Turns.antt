@@ -1,5 +1,5 @@
 -- Requests that are made in turn, seen from the middle of the list.
-use Rattle.std.proofs.Common.{◌≡◌, ℕ, zero, suc, ◌+◌, ◌<◌, ◌≤◌, List, [], ◌∷◌, length, get_or, drop, Ok, Err, Result, sym, refl, ap, ◌∙◌, subst, inl, inr, arith}
+use Rattle.std.proofs.Common.{◌≡◌, ℕ, zero, suc, ◌+◌, ◌<◌, List, [], ◌∷◌, length, get_or, drop, Ok, Err, Result, sym, refl, ap, ◌∙◌, subst, inl, inr, arith}
 use Rattle.knowledge.specs.declared.fault.Fault.{Fault}
 use Rattle.board.specs.declared.request.Request.{Request}
 use Rattle.board.specs.Requests.{Meaning}

@@ -5,7 +5,7 @@ use Rattle.knowledge.specs.declared.fault.Fault.{Fault}
 use Rattle.knowledge.specs.Faults.{in_board}
 use Rattle.board.specs.declared.request.Request.{Request}
 use Rattle.board.specs.Sheets.{State, Function, state_of, Local}
-use Rattle.board.specs.Requests.{written, result, SheetsKnown, PlaceKnown, Fits, Free, Meaning, after}
+use Rattle.board.specs.Requests.{written, SheetsKnown, PlaceKnown, Fits, Free, Meaning, after}
 
 -- a filling rule: which requests find the board full
 abbrev pub Rule : Type 1

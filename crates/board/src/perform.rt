@@ -9,7 +9,7 @@ use knowledge::fault::Fault;
 
 // Makes the call that a request stands for.
 pub fn perform<B: Board>(board: &mut B, request: Request) -> Result<(), Fault>
-    ensures { Written meaning fills board.old request board.new result }
+    ensures { Written B.meaning B.fills board.old request board.new result }
 {
     match request {
         Request::Blank { sheet, value } => board.blank(sheet, value),
@@ -38,8 +38,8 @@ pub fn perform<B: Board>(board: &mut B, request: Request) -> Result<(), Fault>
 
 // Makes the calls of a list in turn, up to the first that is refused.
 pub fn perform_all<B: Board>(board: &mut B, requests: &[Request]) -> Result<(), Fault>
-    ensures turns { Performed meaning fills board.old requests.now board.new result }
-    ensures all { AllWritten (meaning board.old) requests.now (meaning board.new) result }
+    ensures turns { Performed B.meaning B.fills board.old requests.now board.new result }
+    ensures all { AllWritten (B.meaning board.old) requests.now (B.meaning board.new) result }
 {
     for turn in 0..requests.len() {
         take_turn(board, requests, turn)?;
@@ -50,7 +50,7 @@ pub fn perform_all<B: Board>(board: &mut B, requests: &[Request]) -> Result<(), 
 // Makes one call of a list.
 fn take_turn<B: Board>(board: &mut B, requests: &[Request], turn: usize) -> Result<(), Fault>
     requires { turn < length requests.now }
-    ensures { TookTurn meaning fills board.old requests.now turn board.new result }
+    ensures { TookTurn B.meaning B.fills board.old requests.now turn board.new result }
 {
     perform(board, requests[turn])
 }
