@@ -26,7 +26,7 @@ abbrev pub Clean : List ℕ → ℕ → Type 0
 Clean xs w = (i j : ℕ) → (2 ^ w ≤ j) × (j < 4096) → at xs i j ≡ false
 
 -- the bytes in which a meaning lies
-pub record Laid_out (m : Meaning) (xs : List ℕ) : Type 0 where
+pub record LaidOut (m : Meaning) (xs : List ℕ) : Type 0 where
   pub size : length xs ≡ 32768
   pub says : (i : ℕ) (s : State) → i < 64 → at xs i (index m.width s) ≡ m.sheets i s
   pub clean : Clean xs m.width

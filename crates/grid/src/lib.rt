@@ -9,7 +9,7 @@ pub mod calls;
 ghost use Rattle.std.specs.Prelude.{◌≡◌, ℕ, ◌≤◌, length, Ok, Err, slice_index};
 ghost use Rattle.knowledge.specs.declared.fault.Cause.TheVariants.{Table};
 ghost use Rattle.knowledge.specs.Faults.{in_board};
-ghost use Rattle.grid.specs.Layout.{Clean, Laid_out, Made, WithinLimits, meaning_of, unwritten};
+ghost use Rattle.grid.specs.Layout.{Clean, LaidOut, Made, WithinLimits, meaning_of, unwritten};
 
 use board::unmade::Unmade;
 use knowledge::fault::{Cause, Fault};
@@ -62,14 +62,14 @@ impl Grid {
 
     // The bytes, as they lie.
     pub fn bytes(&self) -> &[u8]
-        ensures { Laid_out (meaning_of self.now.bytes.items self.now.width) result.now }
+        ensures { LaidOut (meaning_of self.now.bytes.items self.now.width) result.now }
     {
         &self.bytes
     }
 
     // The memory, with the bytes as they lie.
     pub fn into_memory(self) -> Vec<u8>
-        ensures { Laid_out (meaning_of self.bytes.items self.width) result.items }
+        ensures { LaidOut (meaning_of self.bytes.items self.width) result.items }
     {
         self.bytes
     }

@@ -11,7 +11,7 @@ use Rattle.std.proofs.lemmas.Bool.Decides.{nat_tests}
 use Rattle.knowledge.specs.declared.sets.FactSet.{FactSet}
 use Rattle.knowledge.specs.declared.sets.Group.{Group}
 use Rattle.knowledge.specs.Sets.{has, in_facts, Within, Present, is_present}
-use Rattle.knowledge.proofs.Tests.{T_and, T-leb, T-ltb}
+use Rattle.knowledge.proofs.Tests.{T-and, T-leb, T-ltb}
 
 -- a number is below its power of two
 pub below_power : (k : ℕ) → k < 2 ^ k
@@ -61,8 +61,8 @@ members_below n b = (
 -- the sets of facts up to n are those held in the numbers below the power of two of n
 pub within_bits : (n : ℕ) (s : FactSet) → Within n s ↔ (s.bits < 2 ^ n)
 within_bits n s = Iff.trans (
-  λ h k t. let l : suc k ≤ n = h (suc k) ((T_and (leb 1 (suc k)) (has s.bits (suc k - 1))).1 ((T-leb 1 (suc k)).1 (omega arith), shifted k t)) in l,
-  λ h p t. let q = (T_and (leb 1 p) (has s.bits (p - 1))).0 t in let l = (T-leb 1 p).0 q.0 in let m = h (p - 1) q.1 in omega arith,
+  λ h k t. let l : suc k ≤ n = h (suc k) ((T-and (leb 1 (suc k)) (has s.bits (suc k - 1))).1 ((T-leb 1 (suc k)).1 (omega arith), shifted k t)) in l,
+  λ h p t. let q = (T-and (leb 1 p) (has s.bits (p - 1))).0 t in let l = (T-leb 1 p).0 q.0 in let m = h (p - 1) q.1 in omega arith,
 ) (members_below n s.bits)
   where
     shifted : (k : ℕ) → T (has s.bits k) → T (has s.bits (suc k - 1))
@@ -75,7 +75,7 @@ some_member b = (λ m. let l = member_below b m.0 m.1 in omega arith, λ h. let 
 -- the test of a group decides whether it has a member, and only members below the number of parties
 pub present_bits : (n : ℕ) (g : Group) → T (is_present n g) ↔ Present n g
 present_bits n g =
-    Iff.trans (T_and (ltb 0 g.bits) (ltb g.bits (2 ^ n)))
+    Iff.trans (T-and (ltb 0 g.bits) (ltb g.bits (2 ^ n)))
     (Iff.and (Iff.trans (T-ltb 0 g.bits) (Iff.symm (some_member g.bits))) (Iff.trans (T-ltb g.bits (2 ^ n)) (Iff.symm (members_below n g.bits))))
 
 -- the lowest bit of two numbers joined

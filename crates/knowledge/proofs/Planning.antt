@@ -10,22 +10,22 @@ use Rattle.knowledge.specs.Plans.{Fits, SeatsAll, PlanInWords}
 use Rattle.knowledge.specs.Seats.{all_within}
 use Rattle.knowledge.specs.Sets.{between, Within, is_within}
 use Rattle.knowledge.proofs.Bits.{within_bits}
-use Rattle.knowledge.proofs.Tests.{T_and, T-ltb, T-between}
+use Rattle.knowledge.proofs.Tests.{T-and, T-ltb, T-between}
 
 -- the test of the sights
 T-all_within : (n : ℕ) (sights : List FactSet) → T (all_within n sights) ↔ Each (Within n) sights
 T-all_within n [] = Iff.rfl
 T-all_within n (s ∷ ss) =
-    Iff.trans (T_and (is_within n s) (all_within n ss))
+    Iff.trans (T-and (is_within n s) (all_within n ss))
     (Iff.and (Iff.trans (T-ltb s.bits (2 ^ n)) (Iff.symm (within_bits n s))) (T-all_within n ss))
 
 -- the test of the facts and the sights
 T-fits : (n : ℕ) (sights : List FactSet) → T (between 1 40 n && all_within n sights) ↔ Fits n sights
 T-fits n sights = (
-  λ t. let b = (T_and (between 1 40 n) (all_within n sights)).0 t in
+  λ t. let b = (T-and (between 1 40 n) (all_within n sights)).0 t in
       let r = (T-between 1 40 n).0 b.0 in
       record { some = r.0; few = r.1; seen = (T-all_within n sights).0 b.1 },
-  λ f. (T_and (between 1 40 n) (all_within n sights)).1 ((T-between 1 40 n).1 (f.some, f.few), (T-all_within n sights).1 f.seen),
+  λ f. (T-and (between 1 40 n) (all_within n sights)).1 ((T-between 1 40 n).1 (f.some, f.few), (T-all_within n sights).1 f.seen),
 )
 
 -- the number of a refusal, and 0 for none

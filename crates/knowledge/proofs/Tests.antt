@@ -10,9 +10,9 @@ use Rattle.knowledge.specs.Truth.Truth.{Joined}
 use Rattle.knowledge.proofs.Logic.{⊎-iff}
 
 -- a test of both
-pub T_and : (a b : Bool) → T (a && b) ↔ (T a × T b)
-T_and true b = (λ t. (tt, t), λ p. p.1)
-T_and false b = (λ t. absurd t, λ p. p.0)
+pub T-and : (a b : Bool) → T (a && b) ↔ (T a × T b)
+T-and true b = (λ t. (tt, t), λ p. p.1)
+T-and false b = (λ t. absurd t, λ p. p.0)
 
 -- a test of either
 pub T-or : (a b : Bool) → T (a || b) ↔ (T a ⊎ T b)
@@ -29,7 +29,7 @@ T-ltb m n = (ltb→lt m n, lt→ltb m n)
 
 -- the test of a range
 pub T-between : (first last n : ℕ) → T (between first last n) ↔ ((first ≤ n) × (n ≤ last))
-T-between first last n = Logic.Iff.trans (T_and (leb first n) (leb n last)) (Logic.Iff.and (T-leb first n) (T-leb n last))
+T-between first last n = Logic.Iff.trans (T-and (leb first n) (leb n last)) (Logic.Iff.and (T-leb first n) (T-leb n last))
 
 -- the opposite of a test
 pub T-negated : (a : Bool) → T (negated a) ↔ (T a → ⊥)
@@ -63,12 +63,12 @@ joined_test Iff a b = implied a b && implied b a
 
 -- and what they decide
 pub T-joined : (c : Connective) (a b : Bool) → T (joined_test c a b) ↔ Joined c (T a) (T b)
-T-joined And a b = T_and a b
+T-joined And a b = T-and a b
 T-joined Or a b = T-or a b
 T-joined Xor a b = Logic.Iff.trans (T-or (a && negated b) (negated a && b))
-    (⊎-iff (Logic.Iff.trans (T_and a (negated b)) (Logic.Iff.and Logic.Iff.rfl (T-negated b))) (Logic.Iff.trans (T_and (negated a) b) (Logic.Iff.and (T-negated a) Logic.Iff.rfl)))
+    (⊎-iff (Logic.Iff.trans (T-and a (negated b)) (Logic.Iff.and Logic.Iff.rfl (T-negated b))) (Logic.Iff.trans (T-and (negated a) b) (Logic.Iff.and (T-negated a) Logic.Iff.rfl)))
 T-joined Implies a b = T-implied a b
-T-joined Iff a b = Logic.Iff.trans (T_and (implied a b) (implied b a)) (Logic.Iff.and (T-implied a b) (T-implied b a))
+T-joined Iff a b = Logic.Iff.trans (T-and (implied a b) (implied b a)) (Logic.Iff.and (T-implied a b) (T-implied b a))
 
 -- a test at every number below n
 abbrev pub all_below : ℕ → (ℕ → Bool) → Bool
@@ -90,10 +90,10 @@ T-all_below zero f = (λ _ i h. absurd (omega arith), λ _. tt)
 T-all_below (suc n) f =
     let r = T-all_below n f in (
       λ t i h. elim (less_or_equal h) [
-        | inl e ↦ subst (λ (k : ℕ). T (f k)) (sym e) ((T_and (f n) (all_below n f)).0 t).0
-        | inr l ↦ r.0 ((T_and (f n) (all_below n f)).0 t).1 i l
+        | inl e ↦ subst (λ (k : ℕ). T (f k)) (sym e) ((T-and (f n) (all_below n f)).0 t).0
+        | inr l ↦ r.0 ((T-and (f n) (all_below n f)).0 t).1 i l
       ],
-      λ h. (T_and (f n) (all_below n f)).1 (h n (omega arith), r.1 (λ i l. h i (omega arith))),
+      λ h. (T-and (f n) (all_below n f)).1 (h n (omega arith), r.1 (λ i l. h i (omega arith))),
     )
 
 -- what a test at some number below n decides

@@ -1,5 +1,5 @@
 -- The calls that write the law of the sample matter.
-use Rattle.std.proofs.Common.{◌≡◌, ℕ, Bool, true, false, T, ◌⊎◌, ◌↔◌, sym, refl, ap, ◌∙◌, inl, inr}
+use Rattle.std.proofs.Common.{◌≡◌, ℕ, Bool, true, false, T, ◌⊎◌, ◌↔◌, sym, refl, ◌∙◌, inl, inr}
 use mathlib.Core.Logic.Iff
 use Rattle.std.proofs.lemmas.Bool.{false≢true}
 use Rattle.knowledge.specs.declared.sets.FactSet.{FactSet}

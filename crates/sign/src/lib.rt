@@ -28,7 +28,7 @@ impl<B: Board> Sign<B> {
     // A sign with no sheet marked: it says what the board says.
     pub fn over(below: B) -> Sign<B>
         ensures holds { (result.below ≡ below) × ((i : ℕ) → mark_at result.marks i ≡ false) }
-        ensures says { meaning_of meaning result ≡ meaning below }
+        ensures says { meaning_of B.meaning result ≡ B.meaning below }
     {
         Sign {
             below,
@@ -39,7 +39,7 @@ impl<B: Board> Sign<B> {
     // The board below. The marks are given up: under them it says what the sign said.
     pub fn into_below(self) -> B
         ensures holds { result ≡ self.below }
-        ensures says { meaning_of meaning self ≡ meaning_above self.marks (meaning result) }
+        ensures says { meaning_of B.meaning self ≡ meaning_above self.marks (B.meaning result) }
     {
         let Sign { below, .. } = self;
         below
@@ -52,7 +52,7 @@ impl<B: Board> Sign<B> {
         ensures { (q : Request)
             → handed self.old.marks q ≡ Some request
             → new_mark self.old.marks q ≡ mark
-            → Layered meaning fills self.old q self.new result }
+            → Layered B.meaning B.fills self.old q self.new result }
     {
         perform(&mut self.below, request)?;
         set_mark(&mut self.marks, sheet, mark);
@@ -69,19 +69,19 @@ impl<B: Board> Board for Sign<B> {
     ghost sound = { λ b. sound_above b.marks (B.Board.meaning b.below) (B.Board.fills b.below) (B.Board.sound b.below) };
 
     fn blank(&mut self, sheet: usize, value: bool) -> Result<(), Fault>
-        ensures { Layered meaning fills self.old (Blank sheet value) self.new result }
+        ensures { Layered B.meaning B.fills self.old (Blank sheet value) self.new result }
     {
         self.hand_down(Request::Blank { sheet, value }, sheet, false)
     }
 
     fn atom(&mut self, sheet: usize, place: usize) -> Result<(), Fault>
-        ensures { Layered meaning fills self.old (Atom sheet place) self.new result }
+        ensures { Layered B.meaning B.fills self.old (Atom sheet place) self.new result }
     {
         self.hand_down(Request::Atom { sheet, place }, sheet, false)
     }
 
     fn join(&mut self, sheet: usize, left: usize, right: usize, code: u8) -> Result<(), Fault>
-        ensures { Layered meaning fills self.old (Join sheet left right code) self.new result }
+        ensures { Layered B.meaning B.fills self.old (Join sheet left right code) self.new result }
     {
         let left_mark = mark_of(&self.marks, left);
         let right_mark = mark_of(&self.marks, right);
@@ -96,7 +96,7 @@ impl<B: Board> Board for Sign<B> {
     }
 
     fn flip(&mut self, sheet: usize) -> Result<(), Fault>
-        ensures { Layered meaning fills self.old (Flip sheet) self.new result }
+        ensures { Layered B.meaning B.fills self.old (Flip sheet) self.new result }
     {
         if sheet >= SHEETS {
             return Err(Fault::in_board(Cause::Sheet, sheet));
@@ -113,7 +113,7 @@ impl<B: Board> Board for Sign<B> {
         place: usize,
         quantifier: Quantifier,
     ) -> Result<(), Fault>
-        ensures { Layered meaning fills self.old (Quantify sheet from place quantifier) self.new result }
+        ensures { Layered B.meaning B.fills self.old (Quantify sheet from place quantifier) self.new result }
     {
         let from_mark = mark_of(&self.marks, from);
         let quantifier = exchange(from_mark, quantifier);
@@ -127,7 +127,7 @@ impl<B: Board> Board for Sign<B> {
     }
 
     fn fix(&mut self, sheet: usize, from: usize, place: usize, value: bool) -> Result<(), Fault>
-        ensures { Layered meaning fills self.old (Fix sheet from place value) self.new result }
+        ensures { Layered B.meaning B.fills self.old (Fix sheet from place value) self.new result }
     {
         let mark = mark_of(&self.marks, from);
         let request = Request::Fix {

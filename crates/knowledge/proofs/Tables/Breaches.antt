@@ -20,7 +20,7 @@ use Rattle.knowledge.specs.Faults.{number}
 use Rattle.knowledge.specs.Sets.{between, Present, is_present}
 use Rattle.knowledge.specs.Tables.Tables.{Table, children, family}
 use Rattle.knowledge.proofs.Bits.{present_bits}
-use Rattle.knowledge.proofs.Tests.{T_and, T-or, T-negated, T-between, T-leb, T-ltb}
+use Rattle.knowledge.proofs.Tests.{T-and, T-or, T-negated, T-between, T-leb, T-ltb}
 
 -- the test of a fact that is named
 outside : (p : Terms) (n : ℕ) → T (Bools.not (between 1 p.facts n)) ↔ (¬ FromTo 1 p.facts n)
@@ -105,7 +105,7 @@ module _ (p : Terms) (t : Table) (k : ℕ) where
   -- the test of a law
   knowledge_rule : T (p.in_law && is_modal (family (kind_at t k))) ↔ Breaks p t k cause.Knowledge
   knowledge_rule =
-      Iff.trans (Iff.trans (T_and p.in_law (is_modal (family (kind_at t k)))) (Iff.and Iff.rfl (modal (family (kind_at t k)))))
+      Iff.trans (Iff.trans (T-and p.in_law (is_modal (family (kind_at t k)))) (Iff.and Iff.rfl (modal (family (kind_at t k)))))
       (λ x. modal_in_law x.0 x.1, elim [ modal_in_law l m ↦ (l, m) ])
 
   -- the test of children
@@ -135,7 +135,7 @@ lower c ds = foldr (λ d. ◌&&◌ (ltb (number c) (number d))) true ds
 lower_each : (c : Cause) (ds : List Cause) → T (lower c ds) → (d : Cause) → Among d ds → number c < number d
 lower_each c [] l d m = absurd (not-nil m)
 lower_each c (x ∷ xs) l d m =
-    let b = (T_and (ltb (number c) (number x)) (lower c xs)).0 l in
+    let b = (T-and (ltb (number c) (number x)) (lower c xs)).0 l in
     elim (cases_cons m) [ inl e ↦ rw e ((T-ltb (number c) (number x)).0 b.0) | inr n ↦ lower_each c xs b.1 d n ]
 
 -- A chain of tests in the order of their causes' numbers: where one passes its cause is the lowest that is left, and else the others are left.

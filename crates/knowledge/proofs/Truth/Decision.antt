@@ -12,7 +12,7 @@ use Rattle.knowledge.specs.Truth.Truth.{World, start, copy, told, facts_of, Mode
 use Rattle.knowledge.specs.Truth.Situations.{Setting, sight, Agree, blank, KeepsLaw, Lawful, starting, Notice, posted, told_to, Situation, Holds, after, after_all, opened}
 use Rattle.knowledge.specs.Truth.Verdicts.{Verdict, verdicts, VerdictsTrue}
 use Rattle.knowledge.proofs.Logic.{joined_iff}
-use Rattle.knowledge.proofs.Tests.{T_and, T-negated, implied, T-implied, T-beq, joined_test, T-joined, all_below, T-all_below, less_or_equal}
+use Rattle.knowledge.proofs.Tests.{T-and, T-negated, implied, T-implied, T-beq, joined_test, T-joined, all_below, T-all_below, less_or_equal}
 use Rattle.knowledge.proofs.Bits.{member_below, within_bits}
 use Rattle.knowledge.proofs.Truth.Listing.{Listed, sift, listed_sift, start_no_copy}
 use Rattle.knowledge.proofs.Truth.Finite.{Finite, Shows, keep, duplicate, DecidesEach, keep_shows, duplicate_shows, known?, known_decided, shared?, shared_decided}
@@ -74,7 +74,7 @@ copy_not_listed (suc n) x w (inr l) = copy_not_listed n x w l
 -- the members of a set of facts are not past the number that holds it
 fact_below : (f : FactSet) (p : ℕ) → T (in_facts f p) → p < suc f.bits
 fact_below f p t =
-    let q = (T_and (leb 1 p) (has f.bits (p - 1))).0 t in
+    let q = (T-and (leb 1 p) (has f.bits (p - 1))).0 t in
     let l = member_below f.bits (p - 1) q.1 in
     omega arith
 
@@ -165,7 +165,7 @@ confirmed_true : (vs : List Verdict) → T (confirmed vs) → Each (λ v. T v.an
 confirmed_true [] t = tt
 confirmed_true (v ∷ vs) t =
     let b = true_after v.setting v.facts [] v.query in
-    let p = (T_and (beq v.answer b) (confirmed vs)).0 t in
+    let p = (T-and (beq v.answer b) (confirmed vs)).0 t in
     let d = true_after_decides v.setting v.facts [] v.query in
     (subst (λ (a : Bool). T a ↔ Holds (opened v.setting v.facts) v.query) (sym ((T-beq v.answer b).0 p.0)) d, confirmed_true vs p.1)
 

@@ -7,7 +7,7 @@ use Rattle.knowledge.specs.declared.sets.Group.{Group}
 use Rattle.knowledge.specs.Sets.{in_group}
 use Rattle.knowledge.specs.Truth.Truth.{World, start, copy, Model, kept, Copied, Blurred, copies, Reached, here, step, Known, Shared}
 use Rattle.knowledge.proofs.Logic.{⊎-iff}
-use Rattle.knowledge.proofs.Tests.{T_and, T-or, implied, T-implied, T-beq, some_below, T-some_below}
+use Rattle.knowledge.proofs.Tests.{T-and, T-or, implied, T-implied, T-beq, some_below, T-some_below}
 use Rattle.knowledge.proofs.Bits.{member_below}
 use Rattle.knowledge.proofs.Truth.Listing.{Listed, everywhere, T-everywhere, sift, listed_sift, copy_all, listed_copy, not_listed_start}
 
@@ -58,7 +58,7 @@ duplicate_shows f m g a P h d = record { listed = worlds; asked = same }
     same i (start s) v = Iff.rfl
     same i (copy x w) (start s) = Iff.rfl
     same i (copy x w) (copy y v) =
-        Iff.trans (T_and (implied (in_group g i) (beq x y)) (f.same i w v))
+        Iff.trans (T-and (implied (in_group g i) (beq x y)) (f.same i w v))
         (Iff.and (Iff.trans (T-implied (in_group g i) (beq x y)) (LogicIff.imp Iff.rfl (T-beq x y))) (h.asked i w v))
 
 -- whether a test passes at every world that party i cannot tell from w
@@ -89,8 +89,8 @@ shared? f g w a = a w && everywhere (λ v. let t = a v in implied (leads f g f.w
 -- and what that test decides
 linked_decided : (f : Finite) (g : Group) (u v : World) → T (linked f g u v) ↔ ((i : ℕ) × T (in_group g i) × T (f.same i u v))
 linked_decided f g u v = (
-  λ t. let p = (T-some_below g.bits (λ i. in_group g i && f.same i u v)).0 t in let q = (T_and (in_group g p.0) (f.same p.0 u v)).0 p.2 in (p.0, q.0, q.1),
-  λ p. (T-some_below g.bits (λ i. in_group g i && f.same i u v)).1 (p.0, member_below g.bits p.0 p.1, (T_and (in_group g p.0) (f.same p.0 u v)).1 (p.1, p.2)),
+  λ t. let p = (T-some_below g.bits (λ i. in_group g i && f.same i u v)).0 t in let q = (T-and (in_group g p.0) (f.same p.0 u v)).0 p.2 in (p.0, q.0, q.1),
+  λ p. (T-some_below g.bits (λ i. in_group g i && f.same i u v)).1 (p.0, member_below g.bits p.0 p.1, (T-and (in_group g p.0) (f.same p.0 u v)).1 (p.1, p.2)),
 )
 
 -- links lead from u to v by way of the worlds of a list alone
@@ -103,7 +103,7 @@ leads_decided : (f : Finite) (g : Group) (xs : List World) (u v : World) → T (
 leads_decided f g [] u v = Iff.rfl
 leads_decided f g (x ∷ xs) u v =
     Iff.trans (T-or (leads f g xs u v) (leads f g xs u x && leads f g xs x v))
-    (⊎-iff (leads_decided f g xs u v) (Iff.trans (T_and (leads f g xs u x) (leads f g xs x v)) (Iff.and (leads_decided f g xs u x) (leads_decided f g xs x v))))
+    (⊎-iff (leads_decided f g xs u v) (Iff.trans (T-and (leads f g xs u x) (leads f g xs x v)) (Iff.and (leads_decided f g xs u x) (leads_decided f g xs x v))))
 
 -- a link leads
 link_leads : (f : Finite) (g : Group) (xs : List World) (u v : World) → T (linked f g u v) → Leads f g xs u v
@@ -150,7 +150,7 @@ pub shared_decided : (f : Finite) (m : Model) (g : Group) (w : World) (a : World
 shared_decided f m g w a P h d =
     let ws = f.worlds in
     let r = T-everywhere (λ v. implied (leads f g ws w v) (a v)) ws in
-    let b = T_and (a w) (everywhere (λ v. implied (leads f g ws w v) (a v)) ws) in (
+    let b = T-and (a w) (everywhere (λ v. implied (leads f g ws w v) (a v)) ws) in (
       λ t v s. elim (reached_leads f m g w v h s) [
         | inl e ↦ subst P (sym e) ((d w).0 (b.0 t).0)
         | inr k ↦ (d v).0 ((T-implied (leads f g ws w v) (a v)).0 (r.0 (b.0 t).1 v ((h.listed v).1 k.0)) ((leads_decided f g ws w v).1 k.1))

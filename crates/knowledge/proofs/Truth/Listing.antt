@@ -2,7 +2,7 @@
 use Rattle.std.proofs.Common.{◌≡◌, Bool, true, false, ◌&&◌, T, ◌⊎◌, ◌↔◌, List, [], ◌∷◌, sym, refl, ap, subst, inl, inr}
 use Rattle.knowledge.specs.declared.sets.FactSet.{FactSet}
 use Rattle.knowledge.specs.Truth.Truth.{World, start, copy}
-use Rattle.knowledge.proofs.Tests.{T_and}
+use Rattle.knowledge.proofs.Tests.{T-and}
 
 -- w is in a list
 abbrev pub Listed : World → List World → Type 0
@@ -20,10 +20,10 @@ T-everywhere f [] = (λ _ w h. absurd h, λ _. tt)
 T-everywhere f (x ∷ xs) =
     let r = T-everywhere f xs in (
       λ t w. elim [
-        | inl e ↦ subst (λ (y : World). T (f y)) (sym e) ((T_and (f x) (everywhere f xs)).0 t).0
-        | inr l ↦ r.0 ((T_and (f x) (everywhere f xs)).0 t).1 w l
+        | inl e ↦ subst (λ (y : World). T (f y)) (sym e) ((T-and (f x) (everywhere f xs)).0 t).0
+        | inr l ↦ r.0 ((T-and (f x) (everywhere f xs)).0 t).1 w l
       ],
-      λ h. (T_and (f x) (everywhere f xs)).1 (h x (inl refl), r.1 (λ w l. h w (inr l))),
+      λ h. (T-and (f x) (everywhere f xs)).1 (h x (inl refl), r.1 (λ w l. h w (inr l))),
     )
 
 -- the worlds of a list that pass a test

@@ -9,7 +9,7 @@ returns-in_err-perform g c q is new =
     let refused = c.in_err-perform.ensures in
     let m' = g.B.Board.meaning c.perform.new.board in
     let F' = g.B.Board.fills c.perform.new.board in
-    rw (refusal_is c.from-residual.result c.from-residual.ensures.1)
+    rw (refusal_is c.from_residual.result c.from_residual.ensures.1)
     (refused_above ms q c.args.request {m' = m'} {F' = F'} is refused, refl, rw is refused)
 
 pub returns : goal.returns
