@@ -4,7 +4,7 @@ use Rattle.knowledge.specs.declared.fault.Cause.TheVariants.{Fact, Party}
 use Rattle.knowledge.specs.declared.fault.Fault.{Fault}
 use Rattle.knowledge.specs.declared.plan.Plan.{Plan}
 use Rattle.knowledge.specs.declared.sets.FactSet.{FactSet}
-use Rattle.knowledge.specs.Tables.Check.{Terms}
+use Rattle.knowledge.specs.declared.survey.Terms.{Terms}
 use Rattle.knowledge.specs.Faults.{in_matter}
 use Rattle.knowledge.specs.Lists.{Each}
 use Rattle.knowledge.specs.Seats.{seat, Seated, all_within}

@@ -3,7 +3,7 @@
 
 pub mod check;
 pub mod fault;
-mod measure;
+pub mod measure;
 pub mod plan;
 pub mod scheduler;
 pub mod sets;

@@ -1,37 +1,40 @@
 // What a table's records measure: how deep they are, how many tells they nest, whether they mention knowledge.
-ghost use Rattle.std.specs.Prelude.{◌≡◌, ◌≤◌, take};
-ghost use Rattle.knowledge.specs.Tables.Measures.{unmeasured, child_of, combined, measure_of, Small};
+ghost use Rattle.std.specs.Prelude.{◌≡◌, ◌≤◌};
+ghost use Rattle.knowledge.specs.Tables.Measures.{child_of, combined, measure_of, Small};
 
-use crate::table::{Family, MOST_RECORDS, Record};
+use crate::table::{Family, Record};
 
-// What one record measures.
-#[derive(Clone, Copy)]
+// What a record measures, and so a formula by its last one. What is not there measures nothing, which is the default.
+#[derive(Clone, Copy, PartialEq, Eq, Debug, Default)]
 pub struct Measure {
+    // one more than the deepest child's
     pub depth: usize,
+    // how many tells it nests, each of which needs a mark
     pub tells: usize,
+    // whether it is, or is built on, what a party knows or a group shares
     pub knowledge: bool,
 }
 
-// What a child measures that is not there.
-pub(crate) fn unmeasured() -> Measure
-    ensures { result ≡ unmeasured }
-{
-    Measure {
-        depth: 0,
-        tells: 0,
-        knowledge: false,
+impl Measure {
+    // What a record measures that follows records with these measures.
+    pub(crate) fn of(record: Record, earlier: &[Measure]) -> Measure
+        requires { Small 12 earlier.now }
+        ensures { result ≡ measure_of earlier.now «record» }
+    {
+        let (first, second) = record.kind.children();
+        combined(
+            record.kind.family(),
+            child(earlier, first),
+            child(earlier, second),
+        )
     }
 }
 
 // What a child measures, if it is one of the earlier records.
-fn child(earlier: &[Measure; MOST_RECORDS], place: usize, at: Option<usize>) -> Measure
-    requires { place ≤ 256 }
-    ensures { result ≡ child_of (take place earlier.now) at }
+fn child(earlier: &[Measure], at: Option<usize>) -> Measure
+    ensures { result ≡ child_of earlier.now at }
 {
-    let Some(a) = at else {
-        return unmeasured();
-    };
-    if a < place { earlier[a] } else { unmeasured() }
+    at.and_then(|a| earlier.get(a)).copied().unwrap_or_default()
 }
 
 // What a record measures, from what its children do.
@@ -39,30 +42,14 @@ fn combined(family: Family, a: Measure, b: Measure) -> Measure
     requires { (a.depth ≤ 12) × ((b.depth ≤ 12) × (b.tells ≤ 12)) }
     ensures { result ≡ combined family a b }
 {
-    let depth = 1 + a.depth.max(b.depth);
+    let below = a.tells.max(b.tells);
     let tells = match family {
-        Family::Telling => a.tells.max(b.tells + 1),
-        _ => a.tells.max(b.tells),
-    };
-    let knowledge = match family {
-        Family::Knowing => true,
-        _ => a.knowledge | b.knowledge,
+        Family::Telling => below.max(b.tells + 1),
+        _ => below,
     };
     Measure {
-        depth,
+        depth: 1 + a.depth.max(b.depth),
         tells,
-        knowledge,
+        knowledge: matches!(family, Family::Knowing) || a.knowledge || b.knowledge,
     }
-}
-
-// What a record measures that follows so many earlier ones.
-pub(crate) fn measured(record: Record, earlier: &[Measure; MOST_RECORDS], place: usize) -> Measure
-    requires place { place ≤ 256 }
-    requires small { Small 12 (take place earlier.now) }
-    ensures { result ≡ measure_of (take place earlier.now) «record» }
-{
-    let (first, second) = record.kind.children();
-    let a = child(earlier, place, first);
-    let b = child(earlier, place, second);
-    combined(record.kind.family(), a, b)
 }

@@ -6,29 +6,21 @@ ghost use Rattle.knowledge.specs.Tables.Questions.{Movable};
 ghost use Rattle.knowledge.specs.Truth.Rules.{OpensAnswered, OpensSettled, OpensLawful, CallsAnswered, AnswersSettled};
 ghost use Rattle.knowledge.specs.Truth.Runs.{RunsAgree, RunsSound};
 
-use crate::check::mentions_knowledge;
 use crate::fault::Fault;
 use crate::plan::Plan;
 use crate::table::Record;
 
-// Whether a notice may change places with others that may: it does not mention knowledge. The law over runs says
-// what that is worth: two matters that got the same such notices in two orders give the same answers. It speaks of
-// the answers that the rules allow, and those exist for every call, and are one within what a board surely holds; and
-// after every run the model is one of S5 with the actual world in it.
-pub fn may_change_places(plan: &Plan, table: &[Record]) -> Result<bool, Fault>
-    ensures value { Movable (check (terms_of false plan.now) table.now) table.now result }
-    ensures agree { RunsAgree × RunsSound }
-    ensures opens { OpensAnswered × OpensSettled × OpensLawful }
-    ensures calls { CallsAnswered × AnswersSettled }
-{
-    law_over_runs();
-    let knowledge = mentions_knowledge(plan, table)?;
-    Ok(!knowledge)
+impl Plan {
+    // Whether a notice may change places with others that may: it does not mention knowledge. The law over runs says
+    // what that is worth: two matters that got the same such notices in two orders give the same answers. It speaks of
+    // the answers that the rules allow, and those exist for every call, and are one within what a board surely holds;
+    // and after every run the model is one of S5 with the actual world in it.
+    pub fn may_change_places(&self, notice: &[Record]) -> Result<bool, Fault>
+        ensures value { Movable (check (terms_of false self.now) notice.now) notice.now result }
+        ensures agree { RunsAgree × RunsSound }
+        ensures opens { OpensAnswered × OpensSettled × OpensLawful }
+        ensures calls { CallsAnswered × AnswersSettled }
+    {
+        self.check(notice).map(|measure| !measure.knowledge)
+    }
 }
-
-// The law over runs, with what it rests on; it computes nothing.
-fn law_over_runs()
-    ensures agree { RunsAgree × RunsSound }
-    ensures opens { OpensAnswered × OpensSettled × OpensLawful }
-    ensures calls { CallsAnswered × AnswersSettled }
-{}

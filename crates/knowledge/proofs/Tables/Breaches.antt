@@ -15,7 +15,8 @@ use Rattle.knowledge.specs.declared.table.Family.TheVariants.{Boolean, Knowing, 
 use Rattle.knowledge.specs.declared.table.Kind.{Kind}
 use Rattle.knowledge.specs.declared.table.Kind.TheVariants.{Top, Bottom, Fact, Not, Binary, Knows, KnowsWhether, Shared, SharedWhether, Post, PostWhether, Tell, TellWhether}
 use Rattle.knowledge.specs.Tables.Breaches.{FromTo, NamesFact, in_fact, NamesParty, in_knows, in_knows_whether, NamesGroup, in_shared, in_shared_whether, in_tell, in_tell_whether, Modal, knowing, posting, telling, kind_at, depth_at, Breaks, lacks_fact, lacks_party, lacks_group, too_deep, modal_in_law, lacks_child}
-use Rattle.knowledge.specs.Tables.Check.{Terms, bad_fact, bad_party, is_modal, bad_child, record_fault}
+use Rattle.knowledge.specs.declared.survey.Terms.{Terms}
+use Rattle.knowledge.specs.Tables.Check.{bad_fact, bad_party, is_modal, bad_child, record_fault}
 use Rattle.knowledge.specs.Faults.{number}
 use Rattle.knowledge.specs.Sets.{between, Present, is_present}
 use Rattle.knowledge.specs.Tables.Tables.{Table, children, family}

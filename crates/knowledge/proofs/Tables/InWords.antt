@@ -6,7 +6,8 @@ use Rattle.knowledge.specs.declared.fault.Cause.{Cause}
 use Rattle.knowledge.specs.declared.fault.Cause.TheVariants.{Nodes}
 use Rattle.knowledge.specs.declared.fault.Fault.{Fault}
 use Rattle.knowledge.specs.Tables.Breaches.{FromTo, kind_at, depth_at, Breaks, CleanBefore, FirstBreach, HasFirstFault, of_length, of_record, Faultless, CheckInWords}
-use Rattle.knowledge.specs.Tables.Check.{Terms, record_fault, first_fault, check}
+use Rattle.knowledge.specs.declared.survey.Terms.{Terms}
+use Rattle.knowledge.specs.Tables.Check.{record_fault, first_fault, check}
 use Rattle.knowledge.specs.Faults.{in_table}
 use Rattle.knowledge.specs.Sets.{between}
 use Rattle.knowledge.specs.Tables.Tables.{Table, none, in_order, depth_of}

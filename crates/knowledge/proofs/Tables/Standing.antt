@@ -8,10 +8,12 @@ use Rattle.knowledge.specs.declared.fault.Cause.TheVariants.{Nodes}
 use Rattle.knowledge.specs.declared.fault.Fault.{Fault}
 use Rattle.knowledge.specs.declared.measure.Measure.{Measure}
 use Rattle.knowledge.specs.declared.table.Record.{Record}
-use Rattle.knowledge.specs.Tables.Check.{Terms, bad_fact, bad_party, record_fault, first_fault, check}
+use Rattle.knowledge.specs.declared.survey.Terms.{Terms}
+use Rattle.knowledge.specs.Tables.Check.{bad_fact, bad_party, record_fault, first_fault, check}
 use Rattle.knowledge.specs.Faults.{in_table}
 use Rattle.knowledge.specs.Tables.Formulas.{Formula, bottom}
-use Rattle.knowledge.specs.Tables.Measures.{unmeasured, measure_of, Gauge, Gauges, Small}
+use Rattle.knowledge.specs.Tables.Measures.{unmeasured, measure_of, Gauges, Small}
+use Rattle.knowledge.specs.Tables.Questions.{Gauge}
 use Rattle.knowledge.specs.Sets.{between}
 use Rattle.knowledge.specs.Tables.Tables.{Table, none, formula, formula_of, depth, depth_of, in_order}
 use Rattle.knowledge.proofs.Logic.{failed}

@@ -7,7 +7,8 @@ use Rattle.knowledge.specs.declared.table.Kind.{Kind}
 use Rattle.knowledge.specs.declared.table.Kind.TheVariants.{Top, Bottom, Fact, Not, Binary, Knows, KnowsWhether, Shared, SharedWhether, Post, PostWhether, Tell, TellWhether}
 use Rattle.knowledge.specs.declared.table.Record.{Record}
 use Rattle.knowledge.specs.Tables.Formulas.{Formula, bottom, MentionsKnowledge}
-use Rattle.knowledge.specs.Tables.Measures.{unmeasured, measure_of, Gauge, Gauges, Small}
+use Rattle.knowledge.specs.Tables.Measures.{unmeasured, measure_of, Gauges, Small}
+use Rattle.knowledge.specs.Tables.Questions.{Gauge}
 use Rattle.knowledge.specs.Tables.Tables.{formula_of, depth_of, built, children}
 use Rattle.knowledge.proofs.Logic.{⊎-iff}
 use Rattle.knowledge.proofs.Tests.{T-or}

@@ -9,7 +9,8 @@ use Rattle.knowledge.specs.declared.table.Family.{Family}
 use Rattle.knowledge.specs.declared.table.Family.TheVariants.{Knowing, Posting, Telling}
 use Rattle.knowledge.specs.declared.table.Kind.{Kind}
 use Rattle.knowledge.specs.declared.table.Kind.TheVariants.{Fact, Knows, KnowsWhether, Shared, SharedWhether, Tell, TellWhether}
-use Rattle.knowledge.specs.Tables.Check.{Terms, check}
+use Rattle.knowledge.specs.declared.survey.Terms.{Terms}
+use Rattle.knowledge.specs.Tables.Check.{check}
 use Rattle.knowledge.specs.Faults.{number, in_table}
 use Rattle.knowledge.specs.Sets.{Present}
 use Rattle.knowledge.specs.Tables.Tables.{Table, none, children, family, in_order, depth_of}

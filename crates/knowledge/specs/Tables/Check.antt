@@ -5,6 +5,7 @@ use mathlib.Core.List.{foldr}
 use Rattle.knowledge.specs.declared.fault.Cause.{Cause}
 use Rattle.knowledge.specs.declared.fault.Cause.TheVariants as cause
 use Rattle.knowledge.specs.declared.fault.Fault.{Fault}
+use Rattle.knowledge.specs.declared.survey.Terms.{Terms}
 use Rattle.knowledge.specs.declared.table.Family.{Family}
 use Rattle.knowledge.specs.declared.table.Family.TheVariants.{Boolean, Knowing, Posting, Telling}
 use Rattle.knowledge.specs.declared.table.Kind.{Kind}
@@ -12,12 +13,6 @@ use Rattle.knowledge.specs.declared.table.Kind.TheVariants.{Top, Bottom, Fact, N
 use Rattle.knowledge.specs.Faults.{in_table}
 use Rattle.knowledge.specs.Sets.{between, is_present}
 use Rattle.knowledge.specs.Tables.Tables.{Table, children, family, depth_of}
-
--- what a table is checked against: how many facts and parties the plan has, and whether the table is to be a law
-pub record Terms : Type 0 where
-  pub facts : ℕ
-  pub parties : ℕ
-  pub in_law : Bool
 
 -- a fact that the plan lacks
 abbrev pub bad_fact : ℕ → Kind → Bool

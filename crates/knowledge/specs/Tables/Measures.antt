@@ -1,12 +1,12 @@
 -- What is kept of the records of a table while it is checked.
-use Rattle.std.specs.Prelude.{◌≡◌, ℕ, ◌+◌, ◌≤◌, max, Bool, true, false, ◌||◌, T, ◌↔◌, List, get_or, Some, None, Ok, Err, Option, Result, slice_index, slice_index_or}
-use Rattle.knowledge.specs.declared.fault.Fault.{Fault}
+use Rattle.std.specs.Prelude.{ℕ, ◌+◌, ◌≤◌, max, Bool, true, false, ◌||◌, List, get_or, Some, None, Option, slice_index, slice_index_or}
 use Rattle.knowledge.specs.declared.measure.Measure.{Measure}
 use Rattle.knowledge.specs.declared.table.Family.{Family}
 use Rattle.knowledge.specs.declared.table.Family.TheVariants.{Boolean, Knowing, Posting, Telling}
 use Rattle.knowledge.specs.declared.table.Record.{Record}
-use Rattle.knowledge.specs.Tables.Formulas.{Formula, bottom, MentionsKnowledge, tell_count}
-use Rattle.knowledge.specs.Tables.Tables.{Table, children, pair, family, formula, depth}
+use Rattle.knowledge.specs.Tables.Formulas.{Formula, bottom}
+use Rattle.knowledge.specs.Tables.Questions.{Gauge}
+use Rattle.knowledge.specs.Tables.Tables.{children, pair, family}
 
 -- what is not there measures nothing
 abbrev pub unmeasured : Measure
@@ -43,12 +43,6 @@ combined f a b = record {
 abbrev pub measure_of : List Measure → Record → Measure
 measure_of ms r = combined (family r.kind) (child_of ms (pair (children r.kind)).0) (child_of ms (pair (children r.kind)).1)
 
--- a measure tells the depth of a record, and of its formula the tell count and whether it mentions knowledge
-pub record Gauge (f : Formula) (d : ℕ) (m : Measure) : Type 0 where
-  pub depth : m.depth ≡ d
-  pub tells : m.tells ≡ tell_count f
-  pub knowledge : T m.knowledge ↔ MentionsKnowledge f
-
 -- each measure of a list tells its record's
 abbrev pub Gauges : List Formula → List ℕ → List Measure → Type 0
 Gauges fs ds ms = (k : ℕ) → Gauge (slice_index_or fs k bottom) (slice_index ds k) (slice_index_or ms k unmeasured)
@@ -56,8 +50,3 @@ Gauges fs ds ms = (k : ℕ) → Gauge (slice_index_or fs k bottom) (slice_index 
 -- no record is deeper than the limit, nor nests more tells than it is deep
 abbrev pub Small : ℕ → List Measure → Type 0
 Small limit ms = (k : ℕ) → ((get_or ms k unmeasured).tells ≤ (get_or ms k unmeasured).depth) × ((get_or ms k unmeasured).depth ≤ limit)
-
--- how the survey of a table ends: by the check's refusal, or with what its last record measures
-abbrev pub Surveyed : Option Fault → Table → Result Measure Fault → Type 0
-Surveyed verdict t (Ok m) = (verdict ≡ None) × Gauge (formula t) (depth t) m
-Surveyed verdict t (Err f) = verdict ≡ Some f

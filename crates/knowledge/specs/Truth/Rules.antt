@@ -7,7 +7,8 @@ use Rattle.knowledge.specs.declared.sets.Group.{Group}
 use Rattle.knowledge.specs.Faults.{in_matter, in_board}
 use Rattle.knowledge.specs.Sets.{in_facts, is_present, listed, all_between}
 use Rattle.knowledge.specs.Tables.Tables.{Table, formula, need}
-use Rattle.knowledge.specs.Tables.Check.{Terms, check}
+use Rattle.knowledge.specs.declared.survey.Terms.{Terms}
+use Rattle.knowledge.specs.Tables.Check.{check}
 use Rattle.knowledge.specs.Truth.Truth.{start}
 use Rattle.knowledge.specs.Truth.Situations.{Setting, KeepsLaw, Lawful, Notice, posted, told_to, Situation, Holds, after_all, opened}
 
