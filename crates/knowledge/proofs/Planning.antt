@@ -54,5 +54,5 @@ in_turn false b A B s t = (
 )
 
 -- what making a plan refuses
-pub plan_in_words_lem : PlanInWords
-plan_in_words_lem n sights = in_turn (between 1 40 n && all_within n sights) (between 1 8 (length sights)) (Fits n sights) (SeatsAll sights) (T-fits n sights) (T-between 1 8 (length sights))
+pub plan_in_words : PlanInWords
+plan_in_words n sights = in_turn (between 1 40 n && all_within n sights) (between 1 8 (length sights)) (Fits n sights) (SeatsAll sights) (T-fits n sights) (T-between 1 8 (length sights))

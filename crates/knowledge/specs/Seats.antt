@@ -1,5 +1,6 @@
 -- The table of parties in a plan.
 use Rattle.std.specs.Prelude.{◌≡◌, ℕ, ◌<◌, Bool, true, ◌&&◌, T, List, [], ◌∷◌, length, get_or, slice_index_or}
+use Rattle.std.specs.List.{list_all}
 use Rattle.knowledge.specs.declared.plan.Party.{Party}
 use Rattle.knowledge.specs.declared.sets.FactSet.{FactSet}
 use Rattle.knowledge.specs.Sets.{no_facts, is_within}
@@ -19,5 +20,4 @@ Seen n parties = (k : ℕ) → k < 8 → T (is_within n (get_or parties k (seat 
 
 -- whether no sight has a fact past n
 abbrev pub all_within : ℕ → List FactSet → Bool
-all_within n [] = true
-all_within n (s ∷ ss) = is_within n s && all_within n ss
+all_within n sights = list_all (is_within n) sights

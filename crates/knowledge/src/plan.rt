@@ -12,13 +12,13 @@ pub const MOST_FACTS: usize = 40;
 pub const MOST_PARTIES: usize = 8;
 
 // A party, by its sight: the facts that it observes.
-#[derive(Clone, Copy)]
+#[derive(Clone, Copy, PartialEq, Eq, Debug)]
 pub struct Party {
     pub sight: FactSet,
 }
 
 // A plan. Its parties are numbered from 0 and have the first places of the table; the rest see nothing.
-#[derive(Clone, Copy)]
+#[derive(Clone, Copy, PartialEq, Eq, Debug)]
 pub struct Plan {
     facts: usize,
     count: usize,

@@ -10,7 +10,7 @@ pub const MOST_RECORDS: usize = 256;
 pub const MOST_DEPTH: usize = 12;
 
 // How two formulas are joined.
-#[derive(Clone, Copy)]
+#[derive(Clone, Copy, PartialEq, Eq, Debug)]
 pub enum Connective {
     And,
     Or,
@@ -21,7 +21,7 @@ pub enum Connective {
 
 // What a record says. A fact counts from 1 and a party from 0; every other number is a child,
 // the place of an earlier record in its table. Any number may stand here: the check refuses.
-#[derive(Clone, Copy)]
+#[derive(Clone, Copy, PartialEq, Eq, Debug)]
 pub enum Kind {
     Top,
     Bottom,
@@ -81,13 +81,21 @@ pub enum Kind {
 }
 
 // One record of a formula table.
-#[derive(Clone, Copy)]
+#[derive(Clone, Copy, PartialEq, Eq, Debug)]
 pub struct Record {
     pub kind: Kind,
 }
 
+impl From<Kind> for Record {
+    ghost from_gives = { λ k r. r ≡ record { kind = k } };
+
+    fn from(kind: Kind) -> Record {
+        Record { kind }
+    }
+}
+
 // What sort of operator a kind is: of propositional logic, on knowledge, or a notice of one of the two sorts.
-#[derive(Clone, Copy)]
+#[derive(Clone, Copy, PartialEq, Eq, Debug)]
 pub enum Family {
     Boolean,
     Knowing,

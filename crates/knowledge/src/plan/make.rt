@@ -6,26 +6,26 @@ ghost use Rattle.knowledge.specs.Seats.{all_within, Seated};
 use super::{MOST_FACTS, MOST_PARTIES, Party, Plan};
 use crate::fault::{Cause, Fault};
 use crate::sets::FactSet;
+use std::array;
 
 impl Plan {
     // A plan with this many facts, and a party for each sight.
+    #[tactic(auto, using(crate::proofs::Planning::plan_in_words))]
     pub fn new(facts: usize, sights: &[FactSet]) -> Result<Plan, Fault>
         ensures value { Planned facts sights.now result }
         ensures words { PlanInWords }
     {
-        plan_in_words();
-        if facts < 1 || facts > MOST_FACTS || !all_within(facts, sights) {
+        if !(1..=MOST_FACTS).contains(&facts) || !all_within(facts, sights) {
             return Err(Fault::in_matter(Cause::Fact));
         }
         let count = sights.len();
-        if count < 1 || count > MOST_PARTIES {
+        if !(1..=MOST_PARTIES).contains(&count) {
             return Err(Fault::in_matter(Cause::Party));
         }
-        let parties = seats(sights);
         Ok(Plan {
             facts,
             count,
-            parties,
+            parties: seats(sights),
         })
     }
 
@@ -47,41 +47,24 @@ impl Plan {
     pub fn sight(&self, party: usize) -> Option<FactSet>
         ensures { result ≡ sight_of self.now party }
     {
-        if party < self.parties() {
-            Some(self.parties[party].sight)
-        } else {
-            None
-        }
+        self.parties[..self.count]
+            .get(party)
+            .map(|party| party.sight)
     }
 }
-
-// What is refused, in words; it computes nothing.
-fn plan_in_words()
-    ensures { PlanInWords }
-{}
 
 // Whether no sight has a fact past `last`.
 fn all_within(last: usize, sights: &[FactSet]) -> bool
     ensures { result ≡ all_within last sights.now }
 {
-    for sight in sights {
-        if !sight.is_within(last) {
-            return false;
-        }
-    }
-    true
+    sights.iter().all(|sight| sight.is_within(last))
 }
 
 // The parties with these sights, and others that see nothing.
 fn seats(sights: &[FactSet]) -> [Party; MOST_PARTIES]
-    requires { length sights.now ≤ 8 }
     ensures { Seated sights.now result }
 {
-    let mut parties = [Party {
-        sight: FactSet::none(),
-    }; MOST_PARTIES];
-    for (i, sight) in sights.iter().enumerate() {
-        parties[i] = Party { sight: *sight };
-    }
-    parties
+    array::from_fn(|i| Party {
+        sight: sights.get(i).copied().unwrap_or(FactSet::none()),
+    })
 }
