@@ -1,5 +1,5 @@
 -- The table of parties in a plan.
-use Rattle.std.specs.Prelude.{◌≡◌, ℕ, ◌<◌, Bool, true, ◌&&◌, T, List, [], ◌∷◌, length, get_or, slice_index_or}
+use Rattle.std.specs.Prelude.{◌≡◌, ℕ, ◌<◌, Bool, T, List, [], length, get_or, slice_index_or}
 use Rattle.std.specs.List.{list_all}
 use Rattle.knowledge.specs.declared.plan.Party.{Party}
 use Rattle.knowledge.specs.declared.sets.FactSet.{FactSet}

@@ -13,6 +13,7 @@ use crate::table::Record;
 
 impl Plan {
     // Refuses a table that is no formula for the plan, or tells what the formula measures.
+    #[tactic(auto, using(crate::proofs::Tables::InWords::check_in_words))]
     pub fn check(&self, formula: &[Record]) -> Result<Measure, Fault>
         ensures value { Surveyed (check (terms_of false self.now) formula.now) formula.now result }
         ensures words { CheckInWords }

@@ -12,7 +12,6 @@ pub fn worked_verdicts() -> [bool; 10]
     ensures sets { SetsAsListed }
     ensures script { ScriptRuns }
 {
-    truth_of_verdicts();
     [
         false, // plan A, facts 1,2,3: [!D]alice knows that 1
         true, // plan A, facts 1,2,3: [!D][!Q][!Q]alice knows that 1
@@ -26,10 +25,3 @@ pub fn worked_verdicts() -> [bool; 10]
         false, // plan C, fact 1: [!T]T
     ]
 }
-
-// That the ten answers are true, the sets as listed and the script a run; it computes nothing.
-fn truth_of_verdicts()
-    ensures truth { VerdictsTrue }
-    ensures sets { SetsAsListed }
-    ensures script { ScriptRuns }
-{}

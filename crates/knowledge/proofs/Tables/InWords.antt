@@ -99,8 +99,8 @@ says_none p t (Some f) s x = absurd (no_fault p t f x s)
 says_none p t None s x = refl
 
 -- the check in words
-pub check_in_words_lem : CheckInWords
-check_in_words_lem = (
+pub check_in_words : CheckInWords
+check_in_words = (
   λ p t f. (λ e. subst (Says p t) e (check_says p t), says_fault p t f (check p t) (check_says p t)),
   λ p t. (λ e. subst (Says p t) e (check_says p t), says_none p t (check p t) (check_says p t)),
 )
