@@ -5,9 +5,10 @@
 mod report;
 mod sample;
 
+use knowledge::fault::Fault;
 use knowledge::plan::Plan;
 use knowledge::table::Record;
-use report::{of_law, of_notice};
+use report::{Report, of_law, of_notice};
 
 fn main(rt: HostRuntime) -> anyhow::Result<()> {
     run(&rt)
@@ -23,26 +24,23 @@ fn run(rt: &impl Print) -> anyhow::Result<()> {
     faulty(rt, &plan)
 }
 
-fn law(rt: &impl Print, plan: &Plan, text: &str, table: &[Record]) -> anyhow::Result<()> {
-    let report = of_law(plan, table);
-    println!(rt; "LAW {text}: {report}")?;
-    Ok(())
-}
-
-fn notice(rt: &impl Print, plan: &Plan, text: &str, table: &[Record]) -> anyhow::Result<()> {
-    let report = of_notice(plan, table);
-    println!(rt; "{text}: {report}")?;
+// A line for a law or a notice: its text, then its report or its refusal.
+fn line(rt: &impl Print, text: &str, report: Result<Report, Fault>) -> anyhow::Result<()> {
+    match report {
+        Ok(report) => println!(rt; "{text}: {report}")?,
+        Err(fault) => println!(rt; "{text}: {fault}")?,
+    }
     Ok(())
 }
 
 fn laws(rt: &impl Print, plan: &Plan) -> anyhow::Result<()> {
-    law(rt, plan, "(1|2)", &sample::some_offer())?;
-    law(
-        rt,
-        plan,
-        "alice knows that 2",
-        &sample::alice_knows_second(),
-    )
+    let alice_knows = sample::alice_knows_second();
+    line(rt, "LAW (1|2)", of_law(plan, &sample::some_offer()))?;
+    line(rt, "LAW alice knows that 2", of_law(plan, &alice_knows))
+}
+
+fn notice(rt: &impl Print, plan: &Plan, text: &str, table: &[Record]) -> anyhow::Result<()> {
+    line(rt, text, of_notice(plan, table))
 }
 
 // The notices of the bidding round, as they stand in the queue.

@@ -1,27 +1,25 @@
 // What the scheduler learns of a law or a notice.
-ghost use Rattle.std.specs.Prelude.{◌≡◌, true, false, Some};
-ghost use Rattle.knowledge.specs.Plans.{terms_of};
-ghost use Rattle.knowledge.specs.Tables.Check.{check};
-ghost use Rattle.knowledge.specs.Tables.Questions.{passed};
+ghost use Rattle.std.specs.Prelude.{◌≡◌, Some};
+ghost use Rattle.knowledge.specs.Tables.Questions.{Gauge};
+ghost use Rattle.knowledge.specs.Tables.Tables.{formula, depth};
 ghost use Rattle.release.specs.Reports.{cost_line, line, cost_of, LawReported, NoticeReported};
 
-use knowledge::check::{check_law, depth, tell_count};
 use knowledge::fault::Fault;
+use knowledge::measure::Measure;
 use knowledge::plan::Plan;
-use knowledge::scheduler::may_change_places;
 use knowledge::table::Record;
 use std::fmt;
 
 // What a formula takes: its records, its depth, and the marks for its tells.
-#[derive(Clone, Copy)]
+#[derive(Clone, Copy, PartialEq, Eq, Debug)]
 pub struct Cost {
     records: usize,
     depth: usize,
     tells: usize,
 }
 
-// The report on a law or a notice.
-#[derive(Clone, Copy)]
+// The report on a law or a notice that the check passed.
+#[derive(Clone, Copy, PartialEq, Eq, Debug)]
 pub enum Report {
     // a law
     Law(Cost),
@@ -29,7 +27,6 @@ pub enum Report {
     Movable(Cost),
     // a notice that keeps its place
     Fixed(Cost),
-    Refused(Fault),
 }
 
 impl fmt::Display for Cost {
@@ -51,45 +48,40 @@ impl fmt::Display for Report {
             Report::Law(cost) => write!(f, "{cost}"),
             Report::Movable(cost) => write!(f, "{cost}, may change places"),
             Report::Fixed(cost) => write!(f, "{cost}, keeps its place: it mentions knowledge"),
-            Report::Refused(fault) => write!(f, "{fault}"),
         }
     }
 }
 
-// What a formula takes, or the check's refusal.
-fn cost_of(plan: &Plan, table: &[Record]) -> Result<Cost, Fault>
-    ensures { result ≡ passed (check (terms_of false plan.now) table.now) (cost_of table.now) }
-{
-    Ok(Cost {
-        records: table.len(),
-        depth: depth(plan, table)?,
-        tells: tell_count(plan, table)?,
-    })
-}
-
-// The report on a law.
-pub fn of_law(plan: &Plan, table: &[Record]) -> Report
-    ensures { LawReported plan.now table.now result }
-{
-    if let Err(fault) = check_law(plan, table) {
-        return Report::Refused(fault);
-    }
-    match cost_of(plan, table) {
-        Ok(cost) => Report::Law(cost),
-        Err(fault) => Report::Refused(fault),
+impl Cost {
+    // What a formula takes that measures so much.
+    fn of(table: &[Record], measure: Measure) -> Cost
+        requires { Gauge (formula table.now) (depth table.now) measure }
+        ensures { result ≡ cost_of table.now }
+    {
+        Cost {
+            records: table.len(),
+            depth: measure.depth,
+            tells: measure.tells,
+        }
     }
 }
 
-// The report on a notice.
-pub fn of_notice(plan: &Plan, table: &[Record]) -> Report
-    ensures { NoticeReported plan.now table.now result }
+// The report on a law, or the check's refusal.
+pub fn of_law(plan: &Plan, law: &[Record]) -> Result<Report, Fault>
+    ensures { LawReported plan.now law.now result }
 {
-    match cost_of(plan, table) {
-        Ok(cost) => match may_change_places(plan, table) {
-            Ok(true) => Report::Movable(cost),
-            Ok(false) => Report::Fixed(cost),
-            Err(fault) => Report::Refused(fault),
-        },
-        Err(fault) => Report::Refused(fault),
+    let measure = plan.check_law(law)?;
+    Ok(Report::Law(Cost::of(law, measure)))
+}
+
+// The report on a notice, or the check's refusal.
+pub fn of_notice(plan: &Plan, notice: &[Record]) -> Result<Report, Fault>
+    ensures { NoticeReported plan.now notice.now result }
+{
+    let cost = Cost::of(notice, plan.check(notice)?);
+    if plan.may_change_places(notice)? {
+        Ok(Report::Movable(cost))
+    } else {
+        Ok(Report::Fixed(cost))
     }
 }

@@ -4,6 +4,7 @@ use knowledge::fault::Fault;
 use knowledge::plan::Plan;
 use knowledge::sets::{FactSet, Group};
 use knowledge::table::{Connective, Kind, Record};
+use std::array;
 
 pub fn plan() -> Result<Plan, Fault> {
     let alice = FactSet::of(&[1])?;
@@ -11,28 +12,25 @@ pub fn plan() -> Result<Plan, Fault> {
     Plan::new(2, &[alice, bob])
 }
 
-fn of(kind: Kind) -> Record {
-    Record { kind }
-}
-
 fn fact(number: usize) -> Record {
-    of(Kind::Fact { number })
+    Kind::Fact { number }.into()
 }
 
 fn not(body: usize) -> Record {
-    of(Kind::Not { body })
+    Kind::Not { body }.into()
 }
 
 fn knows(party: usize, body: usize) -> Record {
-    of(Kind::Knows { party, body })
+    Kind::Knows { party, body }.into()
 }
 
 fn binary(connective: Connective, left: usize, right: usize) -> Record {
-    of(Kind::Binary {
+    Kind::Binary {
         connective,
         left,
         right,
-    })
+    }
+    .into()
 }
 
 // (1|2)
@@ -71,23 +69,25 @@ pub fn tells_before() -> Result<[Record; 5], Fault> {
         fact(1),
         fact(2),
         binary(Connective::And, 0, 1),
-        of(Kind::TellWhether {
+        Kind::TellWhether {
             group: alice,
             notice: 1,
             body: 2,
-        }),
-        of(Kind::Tell {
+        }
+        .into(),
+        Kind::Tell {
             group: bob,
             notice: 0,
             body: 3,
-        }),
+        }
+        .into(),
     ])
 }
 
 // {alice,bob} shared whether 1
 pub fn shared_first() -> Result<[Record; 2], Fault> {
     let group = Group::of(&[0, 1])?;
-    Ok([fact(1), of(Kind::SharedWhether { group, body: 0 })])
+    Ok([fact(1), Kind::SharedWhether { group, body: 0 }.into()])
 }
 
 // 3, a fact that the plan lacks
@@ -102,11 +102,7 @@ pub fn carol_knows_first() -> [Record; 2] {
 
 // twelve times not over Top, one level too deep
 pub fn nested() -> [Record; 13] {
-    let mut table = [of(Kind::Top); 13];
-    for i in 1..13 {
-        table[i] = not(i - 1);
-    }
-    table
+    array::from_fn(|i| if i == 0 { Kind::Top.into() } else { not(i - 1) })
 }
 
 // a record that is its own child
