@@ -1,34 +1,44 @@
 // The check of tables.
 use crate::tables::*;
-use knowledge::check::{check, check_law};
+use knowledge::fault::{Cause, Fault};
 use knowledge::sets::Group;
 use knowledge::table::{Kind, Record};
+use std::array;
 use std::test::Fail;
+
+// A refusal at a record.
+fn refused(cause: Cause, record: usize) -> Option<Fault> {
+    Some(Fault::in_table(cause, record))
+}
 
 #[test]
 fn lengths(rt: HostRuntime) -> Result<(), Fail> {
     let plan = two_by_two()?;
-    assert_eq!(rt; refusal(check(&plan, &[])), (6, 0));
-    assert_eq!(rt; refusal(check(&plan, &[top()])), (0, 0));
-    assert_eq!(rt; refusal(check(&plan, &[top(); 256])), (0, 0));
-    assert_eq!(rt; refusal(check(&plan, &[top(); 257])), (6, 0));
-    assert_eq!(rt; refusal(check(&plan, &[fact(0); 257])), (6, 0));
-    assert_eq!(rt; refusal(check_law(&plan, &[])), (6, 0));
+    assert_eq!(rt; plan.check(&[]).err(), refused(Cause::Nodes, 0));
+    assert_eq!(rt; plan.check(&[top()]).err(), None);
+    assert_eq!(rt; plan.check(&[top(); 256]).err(), None);
+    assert_eq!(rt; plan.check(&[top(); 257]).err(), refused(Cause::Nodes, 0));
+    assert_eq!(rt; plan.check(&[fact(0); 257]).err(), refused(Cause::Nodes, 0));
+    assert_eq!(rt; plan.check_law(&[]).err(), refused(Cause::Nodes, 0));
     Ok(())
 }
 
 #[test]
 fn facts(rt: HostRuntime) -> Result<(), Fail> {
     let plan = two_by_two()?;
-    assert_eq!(rt; refusal(check(&plan, &[fact(1)])), (0, 0));
-    assert_eq!(rt; refusal(check(&plan, &[fact(2)])), (0, 0));
-    assert_eq!(rt; refusal(check(&plan, &[fact(0)])), (4, 0));
-    assert_eq!(rt; refusal(check(&plan, &[top(), fact(3)])), (4, 1));
+    let huge = fact(usize::MAX);
+    assert_eq!(rt; plan.check(&[fact(1)]).err(), None);
+    assert_eq!(rt; plan.check(&[fact(2)]).err(), None);
+    assert_eq!(rt; plan.check(&[fact(0)]).err(), refused(Cause::Fact, 0));
     assert_eq!(rt;
-        refusal(check(&plan, &[top(), top(), fact(usize::MAX)])),
-        (4, 2)
+        plan.check(&[top(), fact(3)]).err(),
+        refused(Cause::Fact, 1)
     );
-    assert_eq!(rt; refusal(check_law(&plan, &[fact(3)])), (4, 0));
+    assert_eq!(rt;
+        plan.check(&[top(), top(), huge]).err(),
+        refused(Cause::Fact, 2)
+    );
+    assert_eq!(rt; plan.check_law(&[fact(3)]).err(), refused(Cause::Fact, 0));
     Ok(())
 }
 
@@ -38,56 +48,57 @@ fn parties(rt: HostRuntime) -> Result<(), Fail> {
     let both = Group::of(&[0, 1])?;
     let absent = Group::of(&[0, 2])?;
     let nobody = Group::of(&[])?;
-    for r in singles(1, both, 0) {
-        assert_eq!(rt; refusal(check(&plan, &[top(), r])), (0, 0));
+    for record in singles(1, both, 0) {
+        assert_eq!(rt; plan.check(&[top(), record]).err(), None);
     }
-    for r in doubles(both, 0, 0) {
-        assert_eq!(rt; refusal(check(&plan, &[top(), r])), (0, 0));
+    for record in doubles(both, 0, 0) {
+        assert_eq!(rt; plan.check(&[top(), record]).err(), None);
     }
-    for (k, r) in singles(2, absent, 0).iter().enumerate() {
-        let expected = if k == 0 { (0, 0) } else { (5, 1) };
-        assert_eq!(rt; refusal(check(&plan, &[top(), *r])), expected);
+    // a negation names no party, nor do a connective and a post
+    let no = refused(Cause::Party, 1);
+    let alone = [None, no, no, no, no];
+    for (record, expected) in singles(2, absent, 0).iter().zip(alone) {
+        assert_eq!(rt; plan.check(&[top(), *record]).err(), expected);
     }
-    for (k, r) in singles(usize::MAX, nobody, 0).iter().enumerate() {
-        let expected = if k == 0 { (0, 0) } else { (5, 1) };
-        assert_eq!(rt; refusal(check(&plan, &[top(), *r])), expected);
+    for (record, expected) in singles(usize::MAX, nobody, 0).iter().zip(alone) {
+        assert_eq!(rt; plan.check(&[top(), *record]).err(), expected);
     }
-    for (k, r) in doubles(nobody, 0, 0).iter().enumerate() {
-        let expected = if k < 3 { (0, 0) } else { (5, 1) };
-        assert_eq!(rt; refusal(check(&plan, &[top(), *r])), expected);
+    let paired = [None, None, None, no, no];
+    for (record, expected) in doubles(nobody, 0, 0).iter().zip(paired) {
+        assert_eq!(rt; plan.check(&[top(), *record]).err(), expected);
     }
     Ok(())
 }
 
-// A table of records that each negate the one before, with the last one given.
+// A table of so many records that each negate the one before, then the record given, and what more it takes to 13.
 fn deep(length: usize, last: Record) -> [Record; 13] {
-    let mut table = [top(); 13];
-    for i in 1..13 {
-        if i < length {
-            table[i] = not(i - 1);
+    array::from_fn(|i| {
+        if i == length {
+            last
+        } else if i == 0 || i > length {
+            top()
+        } else {
+            not(i - 1)
         }
-    }
-    if length < 13 {
-        table[length] = last;
-    }
-    table
+    })
 }
 
 #[test]
 fn depths(rt: HostRuntime) -> Result<(), Fail> {
     let plan = two_by_two()?;
     let both = Group::of(&[0, 1])?;
-    for r in singles(0, both, 10) {
-        assert_eq!(rt; refusal(check(&plan, &deep(11, r))), (0, 0));
+    for record in singles(0, both, 10) {
+        assert_eq!(rt; plan.check(&deep(11, record)).err(), None);
     }
-    for r in singles(0, both, 11) {
-        assert_eq!(rt; refusal(check(&plan, &deep(12, r))), (7, 12));
+    let too_deep = refused(Cause::Deep, 12);
+    for record in singles(0, both, 11) {
+        assert_eq!(rt; plan.check(&deep(12, record)).err(), too_deep);
     }
-    for r in doubles(both, 0, 11) {
-        assert_eq!(rt; refusal(check(&plan, &deep(12, r))), (7, 12));
+    for record in doubles(both, 0, 11) {
+        assert_eq!(rt; plan.check(&deep(12, record)).err(), too_deep);
     }
-    for r in doubles(both, 11, 0) {
-        assert_eq!(rt; refusal(check(&plan, &deep(12, r))), (7, 12));
+    for record in doubles(both, 11, 0) {
+        assert_eq!(rt; plan.check(&deep(12, record)).err(), too_deep);
     }
     Ok(())
 }
@@ -96,19 +107,17 @@ fn depths(rt: HostRuntime) -> Result<(), Fail> {
 fn laws(rt: HostRuntime) -> Result<(), Fail> {
     let plan = two_by_two()?;
     let both = Group::of(&[0, 1])?;
-    for (k, r) in singles(1, both, 0).iter().enumerate() {
-        let expected = if k == 0 { (0, 0) } else { (8, 1) };
-        assert_eq!(rt; refusal(check_law(&plan, &[top(), *r])), expected);
+    // a negation and a connective may stand in a law
+    let no = refused(Cause::Knowledge, 1);
+    let expected = [None, no, no, no, no];
+    for (record, expected) in singles(1, both, 0).iter().zip(expected) {
+        assert_eq!(rt; plan.check_law(&[top(), *record]).err(), expected);
     }
-    for (k, r) in doubles(both, 0, 0).iter().enumerate() {
-        let expected = if k == 0 { (0, 0) } else { (8, 1) };
-        assert_eq!(rt; refusal(check_law(&plan, &[top(), *r])), expected);
+    for (record, expected) in doubles(both, 0, 0).iter().zip(expected) {
+        assert_eq!(rt; plan.check_law(&[top(), *record]).err(), expected);
     }
     // knowledge that the last record is not built on
-    assert_eq!(rt;
-        refusal(check_law(&plan, &[top(), knows(0, 0), top()])),
-        (8, 1)
-    );
+    assert_eq!(rt; plan.check_law(&[top(), knows(0, 0), top()]).err(), no);
     Ok(())
 }
 
@@ -116,18 +125,19 @@ fn laws(rt: HostRuntime) -> Result<(), Fail> {
 fn children(rt: HostRuntime) -> Result<(), Fail> {
     let plan = two_by_two()?;
     let both = Group::of(&[0, 1])?;
+    let no = refused(Cause::Child, 1);
     for at in [1, 2, usize::MAX] {
-        for r in singles(1, both, at) {
-            assert_eq!(rt; refusal(check(&plan, &[top(), r, top()])), (9, 1));
+        for record in singles(1, both, at) {
+            assert_eq!(rt; plan.check(&[top(), record, top()]).err(), no);
         }
-        for r in doubles(both, 0, at) {
-            assert_eq!(rt; refusal(check(&plan, &[top(), r, top()])), (9, 1));
+        for record in doubles(both, 0, at) {
+            assert_eq!(rt; plan.check(&[top(), record, top()]).err(), no);
         }
-        for r in doubles(both, at, 0) {
-            assert_eq!(rt; refusal(check(&plan, &[top(), r, top()])), (9, 1));
+        for record in doubles(both, at, 0) {
+            assert_eq!(rt; plan.check(&[top(), record, top()]).err(), no);
         }
     }
-    assert_eq!(rt; refusal(check(&plan, &[not(0)])), (9, 0));
+    assert_eq!(rt; plan.check(&[not(0)]).err(), refused(Cause::Child, 0));
     Ok(())
 }
 
@@ -137,26 +147,45 @@ fn two_faults(rt: HostRuntime) -> Result<(), Fail> {
     let both = Group::of(&[0, 1])?;
     let nobody = Group::of(&[])?;
     // at one record, the lowest number
-    assert_eq!(rt; refusal(check(&plan, &[knows(2, 0)])), (5, 0));
-    assert_eq!(rt; refusal(check_law(&plan, &[knows(2, 0)])), (5, 0));
-    assert_eq!(rt; refusal(check_law(&plan, &[knows(1, 0)])), (8, 0));
-    assert_eq!(rt; refusal(check_law(&plan, &deep(12, knows(1, 11)))), (7, 12));
-    assert_eq!(rt; refusal(check(&plan, &deep(12, and(11, 12)))), (7, 12));
-    let tell = of(Kind::Tell {
+    assert_eq!(rt; plan.check(&[knows(2, 0)]).err(), refused(Cause::Party, 0));
+    assert_eq!(rt;
+        plan.check_law(&[knows(2, 0)]).err(),
+        refused(Cause::Party, 0)
+    );
+    assert_eq!(rt;
+        plan.check_law(&[knows(1, 0)]).err(),
+        refused(Cause::Knowledge, 0)
+    );
+    let known = deep(12, knows(1, 11));
+    assert_eq!(rt; plan.check_law(&known).err(), refused(Cause::Deep, 12));
+    let joined = deep(12, and(11, 12));
+    assert_eq!(rt; plan.check(&joined).err(), refused(Cause::Deep, 12));
+    let tell = Kind::Tell {
         group: nobody,
         notice: 11,
         body: 12,
-    });
-    assert_eq!(rt; refusal(check_law(&plan, &deep(12, tell))), (5, 12));
+    };
+    assert_eq!(rt;
+        plan.check_law(&deep(12, tell.into())).err(),
+        refused(Cause::Party, 12)
+    );
     // a bad child does not count for depth
-    assert_eq!(rt; refusal(check(&plan, &deep(11, and(12, 10)))), (9, 11));
+    let joined = deep(11, and(12, 10));
+    assert_eq!(rt; plan.check(&joined).err(), refused(Cause::Child, 11));
     // of two records, the first
-    assert_eq!(rt; refusal(check(&plan, &[not(0), fact(0)])), (9, 0));
-    assert_eq!(rt; refusal(check(&plan, &[fact(3), knows(2, 7)])), (4, 0));
-    let shared = of(Kind::Shared {
+    assert_eq!(rt;
+        plan.check(&[not(0), fact(0)]).err(),
+        refused(Cause::Child, 0)
+    );
+    assert_eq!(rt;
+        plan.check(&[fact(3), knows(2, 7)]).err(),
+        refused(Cause::Fact, 0)
+    );
+    let shared = Kind::Shared {
         group: both,
         body: 5,
-    });
-    assert_eq!(rt; refusal(check(&plan, &[top(), shared, fact(9)])), (9, 1));
+    };
+    let table = [top(), shared.into(), fact(9)];
+    assert_eq!(rt; plan.check(&table).err(), refused(Cause::Child, 1));
     Ok(())
 }

@@ -5,30 +5,27 @@ use knowledge::plan::Plan;
 use knowledge::sets::{FactSet, Group};
 use std::test::Fail;
 
-// The number of a refused plan, and 0 for one that is made.
-fn made(facts: usize, sights: &[FactSet]) -> u8 {
-    match Plan::new(facts, sights) {
-        Ok(_) => 0,
-        Err(fault) => fault.cause.number(),
-    }
+// A refusal by a matter.
+fn refused(cause: Cause) -> Option<Fault> {
+    Some(Fault::in_matter(cause))
 }
 
 #[test]
 fn limits_of_plans(rt: HostRuntime) -> Result<(), Fail> {
     let blind = FactSet::of(&[])?;
     let last = FactSet::of(&[1, 40])?;
-    assert_eq!(rt; made(0, &[blind]), 4);
-    assert_eq!(rt; made(1, &[blind]), 0);
-    assert_eq!(rt; made(40, &[last]), 0);
-    assert_eq!(rt; made(41, &[blind]), 4);
-    assert_eq!(rt; made(usize::MAX, &[blind]), 4);
-    assert_eq!(rt; made(39, &[last]), 4);
-    assert_eq!(rt; made(39, &[blind, last]), 4);
-    assert_eq!(rt; made(40, &[]), 5);
-    assert_eq!(rt; made(40, &[last; 8]), 0);
-    assert_eq!(rt; made(40, &[last; 9]), 5);
-    assert_eq!(rt; made(39, &[last; 9]), 4);
-    assert_eq!(rt; made(41, &[]), 4);
+    assert_eq!(rt; Plan::new(0, &[blind]).err(), refused(Cause::Fact));
+    assert_eq!(rt; Plan::new(1, &[blind]).err(), None);
+    assert_eq!(rt; Plan::new(40, &[last]).err(), None);
+    assert_eq!(rt; Plan::new(41, &[blind]).err(), refused(Cause::Fact));
+    assert_eq!(rt; Plan::new(usize::MAX, &[blind]).err(), refused(Cause::Fact));
+    assert_eq!(rt; Plan::new(39, &[last]).err(), refused(Cause::Fact));
+    assert_eq!(rt; Plan::new(39, &[blind, last]).err(), refused(Cause::Fact));
+    assert_eq!(rt; Plan::new(40, &[]).err(), refused(Cause::Party));
+    assert_eq!(rt; Plan::new(40, &[last; 8]).err(), None);
+    assert_eq!(rt; Plan::new(40, &[last; 9]).err(), refused(Cause::Party));
+    assert_eq!(rt; Plan::new(39, &[last; 9]).err(), refused(Cause::Fact));
+    assert_eq!(rt; Plan::new(41, &[]).err(), refused(Cause::Fact));
     Ok(())
 }
 
@@ -46,31 +43,15 @@ fn parts_of_a_plan(rt: HostRuntime) -> Result<(), Fail> {
     Ok(())
 }
 
-// The number of a refused set of facts, and 0 for one that is made.
-fn collected(facts: &[usize]) -> u8 {
-    match FactSet::of(facts) {
-        Ok(_) => 0,
-        Err(fault) => fault.cause.number(),
-    }
-}
-
-// The same of a group.
-fn gathered(members: &[usize]) -> u8 {
-    match Group::of(members) {
-        Ok(_) => 0,
-        Err(fault) => fault.cause.number(),
-    }
-}
-
 #[test]
 fn limits_of_sets(rt: HostRuntime) {
-    assert_eq!(rt; collected(&[1, 40, 40, 2]), 0);
-    assert_eq!(rt; collected(&[0]), 4);
-    assert_eq!(rt; collected(&[1, 41]), 4);
-    assert_eq!(rt; collected(&[usize::MAX]), 4);
-    assert_eq!(rt; gathered(&[0, 7, 7]), 0);
-    assert_eq!(rt; gathered(&[0, 8]), 5);
-    assert_eq!(rt; gathered(&[usize::MAX]), 5);
+    assert_eq!(rt; FactSet::of(&[1, 40, 40, 2]).err(), None);
+    assert_eq!(rt; FactSet::of(&[0]).err(), refused(Cause::Fact));
+    assert_eq!(rt; FactSet::of(&[1, 41]).err(), refused(Cause::Fact));
+    assert_eq!(rt; FactSet::of(&[usize::MAX]).err(), refused(Cause::Fact));
+    assert_eq!(rt; Group::of(&[0, 7, 7]).err(), None);
+    assert_eq!(rt; Group::of(&[0, 8]).err(), refused(Cause::Party));
+    assert_eq!(rt; Group::of(&[usize::MAX]).err(), refused(Cause::Party));
 }
 
 #[test]
