@@ -66,19 +66,14 @@ impl Group {
     }
 
     // Whether there is a member, and each is below the number of parties.
+    #[tactic(auto, using(crate::proofs::Bits::present_bits))]
     pub fn is_present(self, parties: usize) -> bool
         ensures value { result ≡ is_present parties self }
         ensures words { GroupInWords }
     {
-        group_in_words();
         self.bits != 0 && below(self.bits, parties)
     }
 }
-
-// What it is for a group to be present, in words; it computes nothing.
-fn group_in_words()
-    ensures { GroupInWords }
-{}
 
 // Whether bit k is set, for every k.
 fn bit(bits: u64, k: usize) -> bool
