@@ -78,7 +78,7 @@ fn seats(sights: &[FactSet]) -> [Party; MOST_PARTIES]
     ensures { Seated sights.now result }
 {
     let mut parties = [Party {
-        sight: FactSet::none(),
+        sight: FactSet::default(),
     }; MOST_PARTIES];
     for (i, sight) in sights.iter().enumerate() {
         parties[i] = Party { sight: *sight };

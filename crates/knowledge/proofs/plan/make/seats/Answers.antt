@@ -2,8 +2,7 @@ use Rattle.std.proofs.Common.{sym, ap, ◌∙◌, arith}
 use native.Mathlib.Decide.{dec_lt}
 use Rattle.std.proofs.lemmas.List.{get_or_past}
 use Rattle.knowledge.specs.declared.plan.Party.{Party}
-use Rattle.knowledge.specs.declared.sets.FactSet.{FactSet}
-use Rattle.knowledge.specs.Sets.{no_facts}
+use Rattle.knowledge.specs.Sets.{FactSet, no_facts}
 use Rattle.knowledge.proofs.plan.make.seats.Goals as goal
 
 -- a party with this sight
