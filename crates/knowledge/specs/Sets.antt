@@ -1,5 +1,6 @@
 -- Sets of facts and of parties.
-use Rattle.std.specs.Prelude.{◌≡◌, ℕ, ◌-◌, ◌/◌, ◌%◌, ◌^◌, ◌<◌, ◌≤◌, Bool, true, false, ◌&&◌, ◌||◌, T, ◌↔◌, List, [], ◌∷◌, Ok, Err, Result, ◌==◌, nat_le, nat_lt}
+use Rattle.std.specs.Prelude.{◌≡◌, ℕ, ◌-◌, ◌/◌, ◌%◌, ◌^◌, ◌<◌, ◌≤◌, Bool, true, false, ◌&&◌, T, ◌↔◌, List, Ok, Err, Result, ◌==◌, nat_le, nat_lt}
+use Rattle.std.specs.List.{list_any, list_all}
 use Rattle.knowledge.specs.declared.fault.Fault.{Fault}
 use Rattle.knowledge.specs.declared.fault.Cause.TheVariants.{Fact, Party}
 use Rattle.knowledge.specs.declared.sets.NumberSet.{NumberSet}
@@ -55,8 +56,7 @@ GroupInWords = (parties : ℕ) (g : Group) → T (is_present parties g) ↔ Pres
 
 -- whether a number is in a list
 abbrev pub listed : ℕ → List ℕ → Bool
-listed k [] = false
-listed k (n ∷ ns) = k == n || listed k ns
+listed k ns = list_any (λ n. k == n) ns
 
 -- whether a number is from first to last
 abbrev pub between : ℕ → ℕ → ℕ → Bool
@@ -64,8 +64,7 @@ between first last n = nat_le first n && nat_le n last
 
 -- whether each number of a list is from first to last
 abbrev pub all_between : ℕ → ℕ → List ℕ → Bool
-all_between first last [] = true
-all_between first last (n ∷ ns) = between first last n && all_between first last ns
+all_between first last ns = list_all (between first last) ns
 
 -- A set made of a list of numbers has those and no others as members; it is refused where a number is not from first to last.
 abbrev pub Collected : {first last : ℕ} → Fault → List ℕ → Result (NumberSet first last) Fault → Type 0

@@ -23,6 +23,7 @@ const LAST_PARTY: usize = MOST_PARTIES - 1;
 
 impl<const FIRST: usize, const LAST: usize> NumberSet<FIRST, LAST> {
     // The set of these numbers; refused where one is not from FIRST to LAST.
+    #[tactic(auto, using(crate::proofs::Members::collecting))]
     fn collect(numbers: &[usize], cause: Cause) -> Result<Self, Fault>
         requires { LAST < FIRST + 64 }
         ensures { Collected (in_matter cause) numbers.now result }
