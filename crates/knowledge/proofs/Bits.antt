@@ -8,9 +8,7 @@ use lib.Count.{count_leading_zeros}
 use Rattle.std.proofs.lemmas.Nat.{pow_pos, pow-add, pow_below, shl-shr, and_shr, or_shr, leading_top}
 use Rattle.std.proofs.lemmas.Bool.{cases_order, eq-eqb, ne_eqb}
 use Rattle.std.proofs.lemmas.Bool.Decides.{nat_tests}
-use Rattle.knowledge.specs.declared.sets.FactSet.{FactSet}
-use Rattle.knowledge.specs.declared.sets.Group.{Group}
-use Rattle.knowledge.specs.Sets.{has, in_facts, Within, Present, is_present}
+use Rattle.knowledge.specs.Sets.{FactSet, Group, has, in_facts, in_group, Within, Present, is_present}
 use Rattle.knowledge.proofs.Tests.{T-and, T-leb, T-ltb}
 
 -- a number is below its power of two
@@ -72,11 +70,15 @@ within_bits n s = Iff.trans (
 pub some_member : (b : ℕ) → ((k : ℕ) × T (has b k)) ↔ (0 < b)
 some_member b = (λ m. let l = member_below b m.0 m.1 in omega arith, λ h. let m = top_member b h in (m.0, m.1))
 
+-- a party is in a group exactly if its bit is set
+pub in_group_bits : (g : Group) (i : ℕ) → in_group g i ≡ has g.bits i
+in_group_bits g i = grind (arith, nat_tests)
+
 -- the test of a group decides whether it has a member, and only members below the number of parties
 pub present_bits : (n : ℕ) (g : Group) → T (is_present n g) ↔ Present n g
 present_bits n g =
     Iff.trans (T-and (ltb 0 g.bits) (ltb g.bits (2 ^ n)))
-    (Iff.and (Iff.trans (T-ltb 0 g.bits) (Iff.symm (some_member g.bits))) (Iff.trans (T-ltb g.bits (2 ^ n)) (Iff.symm (members_below n g.bits))))
+    (simp in_group_bits (Iff.and (Iff.trans (T-ltb 0 g.bits) (Iff.symm (some_member g.bits))) (Iff.trans (T-ltb g.bits (2 ^ n)) (Iff.symm (members_below n g.bits)))))
 
 -- the lowest bit of two numbers joined
 or_low : (x y : ℕ) → eqb (bit_or x y % 2) 1 ≡ (eqb (x % 2) 1 || eqb (y % 2) 1)

@@ -5,7 +5,7 @@ use Rattle.knowledge.specs.Sets.{has, in_group, listed, between, all_between}
 use Rattle.knowledge.specs.Truth.Rules.{Gives}
 use Rattle.knowledge.specs.Truth.Verdicts.{fact_set, group_of}
 use Rattle.knowledge.proofs.Tests.{T-or}
-use Rattle.knowledge.proofs.Bits.{has_zero, one_more_member, one_more_fact}
+use Rattle.knowledge.proofs.Bits.{in_group_bits, has_zero, one_more_member, one_more_fact}
 
 -- what is in a list of numbers from first to last is from first to last
 pub listed_between : (first last : ℕ) (ns : List ℕ) (k : ℕ) → all_between first last ns ≡ true → T (listed k ns) → (first ≤ k) × (k ≤ last)
@@ -30,5 +30,8 @@ fact_set_gives n (p ∷ ps) e k =
 
 -- a group made of the numbers of parties has those parties
 pub group_of_has : (is : List ℕ) (k : ℕ) → in_group (group_of is) k ≡ listed k is
-group_of_has [] k = has_zero k
-group_of_has (i ∷ is) k = one_more_member i (group_of is).bits k ∙ ap (λ (x : Bool). eqb k i || x) (group_of_has is k)
+group_of_has is k = in_group_bits (group_of is) k ∙ bits is
+  where
+    bits : (ns : List ℕ) → has (group_of ns).bits k ≡ listed k ns
+    bits [] = has_zero k
+    bits (i ∷ ns) = one_more_member i (group_of ns).bits k ∙ ap (λ (x : Bool). eqb k i || x) (bits ns)

@@ -3,12 +3,11 @@ use Rattle.std.proofs.Common.{◌≡◌, ℕ, ◌^◌, Bool, true, false, cond, 
 use mathlib.Core.Logic.Iff
 use Rattle.knowledge.specs.declared.fault.Cause.TheVariants.{Fact, Party}
 use Rattle.knowledge.specs.declared.fault.Fault.{Fault}
-use Rattle.knowledge.specs.declared.sets.FactSet.{FactSet}
 use Rattle.knowledge.specs.Faults.{number, in_matter}
 use Rattle.knowledge.specs.Lists.{Each}
 use Rattle.knowledge.specs.Plans.{Fits, SeatsAll, PlanInWords}
 use Rattle.knowledge.specs.Seats.{all_within}
-use Rattle.knowledge.specs.Sets.{between, Within, is_within}
+use Rattle.knowledge.specs.Sets.{FactSet, between, Within, is_within}
 use Rattle.knowledge.proofs.Bits.{within_bits}
 use Rattle.knowledge.proofs.Tests.{T-and, T-ltb, T-between}
 

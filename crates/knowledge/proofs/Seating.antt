@@ -2,8 +2,7 @@
 use Rattle.std.proofs.Common.{◌≡◌, ℕ, zero, suc, ◌^◌, true, T, List, [], ◌∷◌, get_or, sym, subst, lt→ltb}
 use Rattle.std.proofs.lemmas.Nat.{pow_pos}
 use Rattle.std.proofs.lemmas.Bool.{and_parts}
-use Rattle.knowledge.specs.declared.sets.FactSet.{FactSet}
-use Rattle.knowledge.specs.Sets.{no_facts, is_within}
+use Rattle.knowledge.specs.Sets.{FactSet, no_facts, is_within}
 use Rattle.knowledge.specs.Seats.{all_within}
 
 -- each sight is within the limit where all are

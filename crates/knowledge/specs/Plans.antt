@@ -3,12 +3,11 @@ use Rattle.std.specs.Prelude.{◌≡◌, ℕ, ◌≤◌, Bool, cond, ◌&&◌, �
 use Rattle.knowledge.specs.declared.fault.Cause.TheVariants.{Fact, Party}
 use Rattle.knowledge.specs.declared.fault.Fault.{Fault}
 use Rattle.knowledge.specs.declared.plan.Plan.{Plan}
-use Rattle.knowledge.specs.declared.sets.FactSet.{FactSet}
 use Rattle.knowledge.specs.declared.survey.Terms.{Terms}
 use Rattle.knowledge.specs.Faults.{in_matter}
 use Rattle.knowledge.specs.Lists.{Each}
 use Rattle.knowledge.specs.Seats.{seat, Seated, all_within}
-use Rattle.knowledge.specs.Sets.{between, Within}
+use Rattle.knowledge.specs.Sets.{FactSet, between, Within}
 
 -- what is wrong with the numbers of a plan: facts or a sight outside the limits, then the number of parties
 abbrev pub plan_fault : ℕ → List FactSet → Option Fault

@@ -2,8 +2,7 @@
 use Rattle.std.specs.Prelude.{◌≡◌, ℕ, ◌<◌, Bool, T, List, [], length, get_or, slice_index_or}
 use Rattle.std.specs.List.{list_all}
 use Rattle.knowledge.specs.declared.plan.Party.{Party}
-use Rattle.knowledge.specs.declared.sets.FactSet.{FactSet}
-use Rattle.knowledge.specs.Sets.{no_facts, is_within}
+use Rattle.knowledge.specs.Sets.{FactSet, no_facts, is_within}
 
 -- the party at place k: it has the k-th sight, and past the last it sees nothing
 abbrev pub seat : List FactSet → ℕ → Party

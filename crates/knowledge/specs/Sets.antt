@@ -1,22 +1,34 @@
 -- Sets of facts and of parties.
-use Rattle.std.specs.Prelude.{◌≡◌, ℕ, ◌-◌, ◌/◌, ◌%◌, ◌^◌, ◌<◌, ◌≤◌, Bool, true, false, ◌&&◌, ◌||◌, T, ◌↔◌, List, [], ◌∷◌, Ok, Err, Result, ◌==◌, nat_le, nat_lt}
+use Rattle.std.specs.Prelude.{◌≡◌, ℕ, ◌-◌, ◌/◌, ◌%◌, ◌^◌, ◌<◌, ◌≤◌, Bool, true, false, ◌&&◌, T, ◌↔◌, List, Ok, Err, Result, ◌==◌, nat_le, nat_lt}
+use Rattle.std.specs.List.{list_any, list_all}
 use Rattle.knowledge.specs.declared.fault.Fault.{Fault}
 use Rattle.knowledge.specs.declared.fault.Cause.TheVariants.{Fact, Party}
-use Rattle.knowledge.specs.declared.sets.FactSet.{FactSet}
-use Rattle.knowledge.specs.declared.sets.Group.{Group}
+use Rattle.knowledge.specs.declared.sets.NumberSet.{NumberSet}
 use Rattle.knowledge.specs.Faults.{in_matter}
 
 -- whether number k is in a set of numbers that is held as bits
 abbrev pub has : ℕ → ℕ → Bool
 has s k = s / 2 ^ k % 2 == 1
 
+-- a set of facts, which a plan can have from 1 to 40
+abbrev pub FactSet : Type 0
+FactSet = NumberSet 1 40
+
+-- a group of parties, which a plan can have from 0 to 7
+abbrev pub Group : Type 0
+Group = NumberSet 0 7
+
+-- whether a number is in a set of numbers from first to last
+abbrev pub contains : {first last : ℕ} → NumberSet first last → ℕ → Bool
+contains {first} s n = nat_le first n && has s.bits (n - first)
+
 -- whether a fact, counted from 1, is in a set of facts
 abbrev pub in_facts : FactSet → ℕ → Bool
-in_facts s p = nat_le 1 p && has s.bits (p - 1)
+in_facts s p = contains s p
 
 -- whether a party, counted from 0, is in a group
 abbrev pub in_group : Group → ℕ → Bool
-in_group g i = has g.bits i
+in_group g i = contains g i
 
 -- the set without facts
 abbrev pub no_facts : FactSet
@@ -44,8 +56,7 @@ GroupInWords = (parties : ℕ) (g : Group) → T (is_present parties g) ↔ Pres
 
 -- whether a number is in a list
 abbrev pub listed : ℕ → List ℕ → Bool
-listed k [] = false
-listed k (n ∷ ns) = k == n || listed k ns
+listed k ns = list_any (λ n. k == n) ns
 
 -- whether a number is from first to last
 abbrev pub between : ℕ → ℕ → ℕ → Bool
@@ -53,18 +64,17 @@ between first last n = nat_le first n && nat_le n last
 
 -- whether each number of a list is from first to last
 abbrev pub all_between : ℕ → ℕ → List ℕ → Bool
-all_between first last [] = true
-all_between first last (n ∷ ns) = between first last n && all_between first last ns
+all_between first last ns = list_all (between first last) ns
 
 -- A set made of a list of numbers has those and no others as members; it is refused where a number is not from first to last.
-abbrev pub Collected : {S : Type 0} → (S → ℕ → Bool) → ℕ → ℕ → Fault → List ℕ → Result S Fault → Type 0
-Collected member first last refusal ns (Ok s) = (all_between first last ns ≡ true) × ((n : ℕ) → member s n ≡ listed n ns)
-Collected member first last refusal ns (Err f) = (all_between first last ns ≡ false) × (f ≡ refusal)
+abbrev pub Collected : {first last : ℕ} → Fault → List ℕ → Result (NumberSet first last) Fault → Type 0
+Collected {first} {last} refusal ns (Ok s) = (all_between first last ns ≡ true) × ((n : ℕ) → contains s n ≡ listed n ns)
+Collected {first} {last} refusal ns (Err f) = (all_between first last ns ≡ false) × (f ≡ refusal)
 
--- a set made of the numbers of facts, which a plan can have from 1 to 40
+-- a set made of the numbers of facts
 abbrev pub FactsCollected : List ℕ → Result FactSet Fault → Type 0
-FactsCollected ns r = Collected in_facts 1 40 (in_matter Fact) ns r
+FactsCollected ns r = Collected (in_matter Fact) ns r
 
--- a group made of the numbers of parties, which a plan can have from 0 to 7
+-- a group made of the numbers of parties
 abbrev pub MembersCollected : List ℕ → Result Group Fault → Type 0
-MembersCollected ns r = Collected in_group 0 7 (in_matter Party) ns r
+MembersCollected ns r = Collected (in_matter Party) ns r

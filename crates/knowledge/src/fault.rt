@@ -5,61 +5,41 @@ ghost use Rattle.knowledge.specs.Faults.{number, letter, written, in_matter, in_
 use std::error::Error;
 use std::fmt;
 
-// Why a call was refused.
-#[derive(Clone, Copy, PartialEq, Eq, Debug)]
+// Why a call was refused, by the numbers of the rules; 19 to 21 are kept for later.
+#[derive(Clone, Copy, PartialEq, Eq, Hash, Debug)]
 pub enum Cause {
-    Long,
-    Byte,
-    Word,
-    Fact,
-    Party,
-    Nodes,
-    Deep,
-    Knowledge,
-    Child,
-    Closed,
-    Width,
-    Lawless,
-    Marks,
-    Untrue,
-    Sheet,
-    Place,
-    Full,
-    Table,
-    Memory,
+    Long = 1,
+    Byte = 2,
+    Word = 3,
+    Fact = 4,
+    Party = 5,
+    Nodes = 6,
+    Deep = 7,
+    Knowledge = 8,
+    Child = 9,
+    Closed = 10,
+    Width = 11,
+    Lawless = 12,
+    Marks = 13,
+    Untrue = 14,
+    Sheet = 15,
+    Place = 16,
+    Full = 17,
+    Table = 18,
+    Memory = 22,
 }
 
-impl Cause {
-    // The number by which the rules list the cause.
-    pub fn number(self) -> u8
-        ensures { result ≡ number self }
-    {
-        match self {
-            Cause::Long => 1,
-            Cause::Byte => 2,
-            Cause::Word => 3,
-            Cause::Fact => 4,
-            Cause::Party => 5,
-            Cause::Nodes => 6,
-            Cause::Deep => 7,
-            Cause::Knowledge => 8,
-            Cause::Child => 9,
-            Cause::Closed => 10,
-            Cause::Width => 11,
-            Cause::Lawless => 12,
-            Cause::Marks => 13,
-            Cause::Untrue => 14,
-            Cause::Sheet => 15,
-            Cause::Place => 16,
-            Cause::Full => 17,
-            Cause::Table => 18,
-            Cause::Memory => 22,
-        }
+// The number by which the rules list a cause.
+impl From<Cause> for u8 {
+    ghost from_gives = { λ c n. n ≡ number c };
+
+    fn from(cause: Cause) -> u8 {
+        cause as u8
     }
 }
 
 // What was at fault, which says what the place counts.
-#[derive(Clone, Copy, PartialEq, Eq, Debug)]
+#[derive(Clone, Copy, PartialEq, Eq, Hash, Debug)]
 pub enum Layer {
     // a plan text, by its bytes
     Plan,
@@ -73,23 +53,23 @@ pub enum Layer {
     Matter,
 }
 
-impl Layer {
-    // The letter by which a refusal names the layer.
-    pub fn letter(self) -> &'static str
-        ensures { result.now ≡ letter self }
-    {
-        match self {
+// The letter by which a refusal names the layer.
+impl fmt::Display for Layer {
+    ghost output = { λ l. Some (letter l) };
+
+    fn fmt<W: fmt::Write>(&self, f: &mut fmt::Formatter<W>) -> fmt::Result {
+        f.write_str(match self {
             Layer::Plan => "P",
             Layer::Notice => "N",
             Layer::Formula => "F",
             Layer::Board => "B",
             Layer::Matter => "M",
-        }
+        })
     }
 }
 
 // A refusal.
-#[derive(Clone, Copy, PartialEq, Eq, Debug)]
+#[derive(Clone, Copy, PartialEq, Eq, Hash, Debug)]
 pub struct Fault {
     pub cause: Cause,
     pub layer: Layer,
@@ -136,10 +116,8 @@ impl fmt::Display for Fault {
     ghost output = { λ f. Some (written f) };
 
     fn fmt<W: fmt::Write>(&self, f: &mut fmt::Formatter<W>) -> fmt::Result {
-        let number = self.cause.number();
-        let letter = self.layer.letter();
-        let place = self.place;
-        write!(f, "refused {number} {letter} {place}")
+        let number = u8::from(self.cause);
+        write!(f, "refused {number} {} {}", self.layer, self.place)
     }
 }
 

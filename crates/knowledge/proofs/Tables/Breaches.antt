@@ -9,7 +9,6 @@ use mathlib.Core.List.{foldr, Memᴰ as Among}
 use mathlib.Core.Logic.Iff
 use Rattle.knowledge.specs.declared.fault.Cause.{Cause}
 use Rattle.knowledge.specs.declared.fault.Cause.TheVariants as cause
-use Rattle.knowledge.specs.declared.sets.Group.{Group}
 use Rattle.knowledge.specs.declared.table.Family.{Family}
 use Rattle.knowledge.specs.declared.table.Family.TheVariants.{Boolean, Knowing, Posting, Telling}
 use Rattle.knowledge.specs.declared.table.Kind.{Kind}
@@ -18,7 +17,7 @@ use Rattle.knowledge.specs.Tables.Breaches.{FromTo, NamesFact, in_fact, NamesPar
 use Rattle.knowledge.specs.declared.survey.Terms.{Terms}
 use Rattle.knowledge.specs.Tables.Check.{bad_fact, bad_party, is_modal, bad_child, record_fault}
 use Rattle.knowledge.specs.Faults.{number}
-use Rattle.knowledge.specs.Sets.{between, Present, is_present}
+use Rattle.knowledge.specs.Sets.{Group, between, Present, is_present}
 use Rattle.knowledge.specs.Tables.Tables.{Table, children, family}
 use Rattle.knowledge.proofs.Bits.{present_bits}
 use Rattle.knowledge.proofs.Tests.{T-and, T-or, T-negated, T-between, T-leb, T-ltb}

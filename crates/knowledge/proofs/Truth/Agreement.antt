@@ -4,7 +4,6 @@ use mathlib.Core.Bool.{Bool-set}
 use mathlib.Core.List.{Permᴰ}
 use mathlib.Core.Logic.Iff
 use mathlib.Core.Logic.{∥∥₁_elim, ∥∥₁_map}
-use Rattle.knowledge.specs.declared.sets.FactSet.{FactSet}
 use Rattle.knowledge.specs.Tables.Formulas.{Formula}
 use Rattle.knowledge.specs.Tables.Tables.{Table, formula}
 use Rattle.knowledge.specs.Lists.{Each}
@@ -18,6 +17,7 @@ use Rattle.knowledge.proofs.Truth.Asked.{asks_says}
 use Rattle.knowledge.proofs.Truth.Reordering.{permuted, settled}
 use Rattle.knowledge.proofs.Truth.Openings.{opened_lawful}
 use Rattle.knowledge.proofs.Truth.Knowing.{taken_by_fate, fates_tell, starting_classes, after_sound, known_stays}
+use Rattle.knowledge.specs.Sets.{FactSet}
 
 -- a query after a call, and the query with what the call added stacked before it, have one truth
 one_unfolds : (o : Opening) (ns : List Notice) (c : Call) (r : Answer) → Allowed o ns c r → (q : Formula)

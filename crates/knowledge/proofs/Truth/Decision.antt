@@ -3,8 +3,7 @@ use Rattle.std.proofs.Common.{◌≡◌, ℕ, zero, suc, ◌-◌, ◌^◌, ◌<�
 use mathlib.Core.Bool.{beq}
 use mathlib.Core.Logic.Iff
 use mathlib.Mathlib.Logic.Basic.Iff as LogicIff
-use Rattle.knowledge.specs.declared.sets.FactSet.{FactSet}
-use Rattle.knowledge.specs.Sets.{has, in_facts}
+use Rattle.knowledge.specs.Sets.{FactSet, has, in_facts}
 use Rattle.knowledge.specs.Tables.Formulas.{Formula, top, bottom, fact, not, binary, knows, shared, post, tell}
 use Rattle.knowledge.specs.Tables.Tables.{in_order, formula}
 use Rattle.knowledge.specs.Lists.{Each}

@@ -3,12 +3,11 @@ use Rattle.std.proofs.Common.{◌≡◌, ℕ, Bool, false, ◌&&◌, ◌||◌, T
 use mathlib.Core.Bool.{beq}
 use mathlib.Core.Logic.Iff
 use mathlib.Mathlib.Logic.Basic.Iff as LogicIff
-use Rattle.knowledge.specs.declared.sets.Group.{Group}
-use Rattle.knowledge.specs.Sets.{in_group}
+use Rattle.knowledge.specs.Sets.{Group, in_group}
 use Rattle.knowledge.specs.Truth.Truth.{World, start, copy, Model, kept, Copied, Blurred, copies, Reached, here, step, Known, Shared}
 use Rattle.knowledge.proofs.Logic.{⊎-iff}
 use Rattle.knowledge.proofs.Tests.{T-and, T-or, implied, T-implied, T-beq, some_below, T-some_below}
-use Rattle.knowledge.proofs.Bits.{member_below}
+use Rattle.knowledge.proofs.Bits.{member_below, in_group_bits}
 use Rattle.knowledge.proofs.Truth.Listing.{Listed, everywhere, T-everywhere, sift, listed_sift, copy_all, listed_copy, not_listed_start}
 
 -- a model whose worlds are listed, and whose parties are asked by a test
@@ -90,7 +89,7 @@ shared? f g w a = a w && everywhere (λ v. let t = a v in implied (leads f g f.w
 linked_decided : (f : Finite) (g : Group) (u v : World) → T (linked f g u v) ↔ ((i : ℕ) × T (in_group g i) × T (f.same i u v))
 linked_decided f g u v = (
   λ t. let p = (T-some_below g.bits (λ i. in_group g i && f.same i u v)).0 t in let q = (T-and (in_group g p.0) (f.same p.0 u v)).0 p.2 in (p.0, q.0, q.1),
-  λ p. (T-some_below g.bits (λ i. in_group g i && f.same i u v)).1 (p.0, member_below g.bits p.0 p.1, (T-and (in_group g p.0) (f.same p.0 u v)).1 (p.1, p.2)),
+  λ p. (T-some_below g.bits (λ i. in_group g i && f.same i u v)).1 (p.0, member_below g.bits p.0 (subst T (in_group_bits g p.0) p.1), (T-and (in_group g p.0) (f.same p.0 u v)).1 (p.1, p.2)),
 )
 
 -- links lead from u to v by way of the worlds of a list alone

@@ -2,8 +2,7 @@
 use Rattle.std.proofs.Common.{◌≡◌, ℕ, Bool, true, T, ◌↔◌, sym, subst}
 use mathlib.Core.Logic.Iff
 use mathlib.Mathlib.Logic.Basic.Iff as LogicIff
-use Rattle.knowledge.specs.declared.sets.Group.{Group}
-use Rattle.knowledge.specs.Sets.{in_facts}
+use Rattle.knowledge.specs.Sets.{Group, in_facts}
 use Rattle.knowledge.specs.Tables.Formulas.{Formula, top, bottom, fact, not, binary, knows, shared, post, tell}
 use Rattle.knowledge.specs.Truth.Truth.{World, start, copy, told, facts_of, Model, kept, Copied, Blurred, copies, Reached, here, step, Known, Shared, True}
 use Rattle.knowledge.proofs.Logic.{joined_iff}

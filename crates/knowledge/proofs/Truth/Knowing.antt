@@ -1,6 +1,5 @@
 -- What a party knows is the same where it sees the same.
 use Rattle.std.proofs.Common.{◌≡◌, ℕ, Bool, ◌↔◌, List, [], ◌∷◌, ◌++◌, sym, refl, ap, ◌∙◌}
-use Rattle.knowledge.specs.declared.sets.Group.{Group}
 use Rattle.knowledge.specs.Tables.Formulas.{Formula}
 use Rattle.knowledge.specs.Truth.Truth.{World, start, copy, told, Model, Classes, kept, Copied, Blurred, copies, Known, True}
 use Rattle.knowledge.specs.Truth.Situations.{Setting, starting, Notice, posted, told_to, content, Situation, Sound, Holds, after, after_all}
@@ -9,6 +8,7 @@ use Rattle.knowledge.specs.Truth.Runs.{Event, is_taken, added, taken_in, fates}
 use Rattle.knowledge.proofs.Logic.{⊎-iff}
 use Rattle.knowledge.proofs.Truth.Asked.{SaysWhatIsKnownBy, says_known, says_known_whether}
 use Rattle.knowledge.proofs.Truth.Reordering.{query_adds_nothing}
+use Rattle.knowledge.specs.Sets.{Group}
 
 -- the notices taken, from whether each was
 abbrev pub taken_by_fate : List (Call × Bool) → List Notice

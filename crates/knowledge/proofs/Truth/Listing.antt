@@ -1,8 +1,8 @@
 -- Lists of worlds.
 use Rattle.std.proofs.Common.{◌≡◌, Bool, true, false, ◌&&◌, T, ◌⊎◌, ◌↔◌, List, [], ◌∷◌, sym, refl, ap, subst, inl, inr}
-use Rattle.knowledge.specs.declared.sets.FactSet.{FactSet}
 use Rattle.knowledge.specs.Truth.Truth.{World, start, copy}
 use Rattle.knowledge.proofs.Tests.{T-and}
+use Rattle.knowledge.specs.Sets.{FactSet}
 
 -- w is in a list
 abbrev pub Listed : World → List World → Type 0

@@ -3,11 +3,10 @@ use Rattle.std.proofs.Common.{◌≡◌, Bool, true, false, cond, T, ◌↔◌, 
 use mathlib.Core.List.{Permᴰ}
 use mathlib.Core.Logic.Iff
 use Rattle.knowledge.specs.declared.fault.Cause.TheVariants.{Party}
-use Rattle.knowledge.specs.declared.sets.FactSet.{FactSet}
 use Rattle.knowledge.specs.Faults.{in_matter}
 use Rattle.knowledge.specs.Tables.Formulas.{Formula}
 use Rattle.knowledge.specs.Tables.Tables.{Table, formula}
-use Rattle.knowledge.specs.Sets.{is_present}
+use Rattle.knowledge.specs.Sets.{FactSet, is_present}
 use Rattle.knowledge.specs.Tables.Check.{check}
 use Rattle.knowledge.specs.Lists.{Each}
 use Rattle.knowledge.specs.Truth.Truth.{start, True}

@@ -4,7 +4,6 @@ use mathlib.Core.List.{Memᴰ as Among}
 use Rattle.knowledge.specs.declared.fault.Cause.{Cause}
 use Rattle.knowledge.specs.declared.fault.Cause.TheVariants as cause
 use Rattle.knowledge.specs.declared.fault.Fault.{Fault}
-use Rattle.knowledge.specs.declared.sets.Group.{Group}
 use Rattle.knowledge.specs.declared.table.Family.{Family}
 use Rattle.knowledge.specs.declared.table.Family.TheVariants.{Knowing, Posting, Telling}
 use Rattle.knowledge.specs.declared.table.Kind.{Kind}
@@ -12,7 +11,7 @@ use Rattle.knowledge.specs.declared.table.Kind.TheVariants.{Fact, Knows, KnowsWh
 use Rattle.knowledge.specs.declared.survey.Terms.{Terms}
 use Rattle.knowledge.specs.Tables.Check.{check}
 use Rattle.knowledge.specs.Faults.{number, in_table}
-use Rattle.knowledge.specs.Sets.{Present}
+use Rattle.knowledge.specs.Sets.{Group, Present}
 use Rattle.knowledge.specs.Tables.Tables.{Table, none, children, family, in_order, depth_of}
 
 -- the number is from first to last

@@ -1,8 +1,8 @@
 -- Formulas as trees.
 use Rattle.std.specs.Prelude.{ℕ, ◌+◌, max, ◌⊎◌}
-use Rattle.knowledge.specs.declared.sets.Group.{Group}
 use Rattle.knowledge.specs.declared.table.Connective.{Connective}
 use Rattle.knowledge.specs.declared.table.Connective.TheVariants.{And, Or, Implies}
+use Rattle.knowledge.specs.Sets.{Group}
 
 -- A formula about what the parties know. Facts are numbered from 1, parties from 0.
 pub data Formula : Type 0 where

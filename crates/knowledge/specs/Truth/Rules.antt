@@ -2,10 +2,8 @@
 use Rattle.std.specs.Prelude.{◌≡◌, ℕ, ◌+◌, ◌<◌, max, Bool, true, false, cond, T, ◌⊎◌, ◌↔◌, List, [], ◌∷◌, length, Some, None, Option}
 use Rattle.knowledge.specs.declared.fault.Cause.TheVariants.{Fact, Party, Width, Lawless, Marks, Untrue, Full}
 use Rattle.knowledge.specs.declared.fault.Fault.{Fault}
-use Rattle.knowledge.specs.declared.sets.FactSet.{FactSet}
-use Rattle.knowledge.specs.declared.sets.Group.{Group}
 use Rattle.knowledge.specs.Faults.{in_matter, in_board}
-use Rattle.knowledge.specs.Sets.{in_facts, is_present, listed, all_between}
+use Rattle.knowledge.specs.Sets.{FactSet, Group, in_facts, is_present, listed, all_between}
 use Rattle.knowledge.specs.Tables.Tables.{Table, formula, need}
 use Rattle.knowledge.specs.declared.survey.Terms.{Terms}
 use Rattle.knowledge.specs.Tables.Check.{check}

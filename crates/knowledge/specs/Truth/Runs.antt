@@ -2,7 +2,6 @@
 use Rattle.std.specs.Prelude.{◌≡◌, ℕ, Bool, true, false, T, ◌≢◌, ◌↔◌, List, [], ◌∷◌, ◌++◌, map, None}
 use mathlib.Core.List.{Perm}
 use Rattle.knowledge.specs.declared.fault.Cause.TheVariants.{Marks, Full}
-use Rattle.knowledge.specs.declared.sets.FactSet.{FactSet}
 use Rattle.knowledge.specs.declared.table.Kind.TheVariants.{Knows, KnowsWhether}
 use Rattle.knowledge.specs.Faults.{in_matter, in_board}
 use Rattle.knowledge.specs.Tables.Formulas.{MentionsKnowledge}
@@ -11,6 +10,7 @@ use Rattle.knowledge.specs.Tables.Check.{check}
 use Rattle.knowledge.specs.Lists.{Each}
 use Rattle.knowledge.specs.Truth.Situations.{Setting, sight, Agree, Notice, posted, told_to, Sound, Holds, stacked}
 use Rattle.knowledge.specs.Truth.Rules.{Room, Opening, Answer, taken, said, refused, terms, Gives, OpenAnswered, situation, Call, posts, tells, queries, table_of, Allowed}
+use Rattle.knowledge.specs.Sets.{FactSet}
 
 -- one call with its answer
 pub record Event : Type 0 where

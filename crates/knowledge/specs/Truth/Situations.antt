@@ -1,8 +1,6 @@
 -- The worlds of a matter, at its opening and after notices.
 use Rattle.std.specs.Prelude.{◌≡◌, ℕ, T, List, [], ◌∷◌, slice_index_or}
-use Rattle.knowledge.specs.declared.sets.FactSet.{FactSet}
-use Rattle.knowledge.specs.declared.sets.Group.{Group}
-use Rattle.knowledge.specs.Sets.{in_facts, no_facts, Within}
+use Rattle.knowledge.specs.Sets.{FactSet, Group, in_facts, no_facts, Within}
 use Rattle.knowledge.specs.Tables.Formulas.{Formula, post, tell}
 use Rattle.knowledge.specs.Tables.Tables.{Table, formula}
 use Rattle.knowledge.specs.Truth.Truth.{World, start, copy, told, facts_of, Model, Classes, kept, copies, True}

@@ -1,10 +1,8 @@
 -- What it means that a formula is true.
 use Rattle.std.specs.Prelude.{◌≡◌, ℕ, Bool, true, T, ◌⊎◌}
-use Rattle.knowledge.specs.declared.sets.FactSet.{FactSet}
-use Rattle.knowledge.specs.declared.sets.Group.{Group}
 use Rattle.knowledge.specs.declared.table.Connective.{Connective}
 use Rattle.knowledge.specs.declared.table.Connective.TheVariants.{And, Or, Xor, Implies, Iff}
-use Rattle.knowledge.specs.Sets.{in_facts, in_group}
+use Rattle.knowledge.specs.Sets.{FactSet, Group, in_facts, in_group}
 use Rattle.knowledge.specs.Tables.Formulas.{Formula, top, bottom, fact, not, binary, knows, shared, post, tell}
 
 -- A world: a set of facts, or a copy of a world that a notice to a group made, told or untold.

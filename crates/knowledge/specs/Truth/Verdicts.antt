@@ -1,12 +1,10 @@
 -- Queries with answers that were worked out by hand.
 use Rattle.std.specs.Prelude.{◌≡◌, ℕ, ◌-◌, ◌^◌, Bool, true, false, T, ◌↔◌, List, [], ◌∷◌, map, bit_or}
-use Rattle.knowledge.specs.declared.sets.FactSet.{FactSet}
-use Rattle.knowledge.specs.declared.sets.Group.{Group}
 use Rattle.knowledge.specs.declared.table.Connective.TheVariants.{And, Or}
 use Rattle.knowledge.specs.declared.table.Kind.TheVariants.{Top, Fact, Binary}
 use Rattle.knowledge.specs.Tables.Formulas.{Formula, bottom, fact, not, binary, knows, shared, post, tell, knows_whether, tell_whether}
 use Rattle.knowledge.specs.Lists.{Each}
-use Rattle.knowledge.specs.Sets.{in_facts, in_group, listed, all_between}
+use Rattle.knowledge.specs.Sets.{FactSet, Group, in_facts, in_group, listed, all_between}
 use Rattle.knowledge.specs.Truth.Situations.{Setting, Holds, opened}
 
 -- the set of the facts with these numbers

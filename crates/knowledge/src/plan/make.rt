@@ -64,7 +64,8 @@ fn all_within(last: usize, sights: &[FactSet]) -> bool
 fn seats(sights: &[FactSet]) -> [Party; MOST_PARTIES]
     ensures { Seated sights.now result }
 {
+    let nothing = FactSet::default();
     array::from_fn(|i| Party {
-        sight: sights.get(i).copied().unwrap_or(FactSet::none()),
+        sight: sights.get(i).copied().unwrap_or(nothing),
     })
 }
