@@ -93,3 +93,32 @@ fn refusals_as_printed(rt: HostRuntime) -> Result<(), Fail> {
     );
     Ok(())
 }
+
+// The rules keep the numbers 19 to 21 for later.
+#[test]
+fn numbers_of_causes(rt: HostRuntime) {
+    let numbered = [
+        (Cause::Long, 1),
+        (Cause::Byte, 2),
+        (Cause::Word, 3),
+        (Cause::Fact, 4),
+        (Cause::Party, 5),
+        (Cause::Nodes, 6),
+        (Cause::Deep, 7),
+        (Cause::Knowledge, 8),
+        (Cause::Child, 9),
+        (Cause::Closed, 10),
+        (Cause::Width, 11),
+        (Cause::Lawless, 12),
+        (Cause::Marks, 13),
+        (Cause::Untrue, 14),
+        (Cause::Sheet, 15),
+        (Cause::Place, 16),
+        (Cause::Full, 17),
+        (Cause::Table, 18),
+        (Cause::Memory, 22),
+    ];
+    for (cause, number) in numbered {
+        assert_eq!(rt; u8::from(cause), number);
+    }
+}
