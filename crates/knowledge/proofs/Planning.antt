@@ -1,9 +1,9 @@
 -- What making a plan refuses, in words.
-use Rattle.std.proofs.Common.{◌≡◌, ℕ, ◌^◌, Bool, true, false, cond, ◌&&◌, T, ◌↔◌, List, [], ◌∷◌, length, Some, None, Option, refl, ap, arith}
+use Rattle.std.proofs.Common.{◌≡◌, ℕ, ◌^◌, Bool, true, false, cond, ◌&&◌, T, ◌↔◌, List, [], ◌∷◌, length, Some, None, Option, refl, sym, ap}
 use mathlib.Core.Logic.Iff
 use Rattle.knowledge.specs.declared.fault.Cause.TheVariants.{Fact, Party}
 use Rattle.knowledge.specs.declared.fault.Fault.{Fault}
-use Rattle.knowledge.specs.Faults.{number, in_matter}
+use Rattle.knowledge.specs.Faults.{in_matter}
 use Rattle.knowledge.specs.Lists.{Each}
 use Rattle.knowledge.specs.Plans.{Fits, SeatsAll, PlanInWords}
 use Rattle.knowledge.specs.Seats.{all_within}
@@ -27,29 +27,28 @@ T-fits n sights = (
   λ f. (T-and (between 1 40 n) (all_within n sights)).1 ((T-between 1 40 n).1 (f.some, f.few), (T-all_within n sights).1 f.seen),
 )
 
--- the number of a refusal, and 0 for none
-abbrev told : Option Fault → ℕ
-told None = 0
-told (Some f) = number f.cause
+-- the two refusals differ
+unlike : {A : Type 0} → Some (in_matter Party) ≡ Some (in_matter Fact) → A
+unlike e = let same : in_matter Party ≡ in_matter Fact = cc in let cause = ap (λ (f : Fault). f.cause) same in cc
 
 -- two tests in turn, and what each refuses
 in_turn : (a b : Bool) (A B : Type 0) → T a ↔ A → T b ↔ B
     → let o : Option Fault = cond a (cond b None (Some (in_matter Party))) (Some (in_matter Fact)) in
     ((o ≡ Some (in_matter Fact)) ↔ ¬ A) × ((o ≡ Some (in_matter Party)) ↔ (A × ¬ B)) × ((o ≡ None) ↔ (A × B))
 in_turn true true A B s t = (
-  (λ e. let n = ap told e in absurd (omega arith), λ h. absurd (h (s.0 tt))),
-  (λ e. let n = ap told e in absurd (omega arith), λ h. absurd (h.1 (t.0 tt))),
+  (λ e. cc, λ h. absurd (h (s.0 tt))),
+  (λ e. cc, λ h. absurd (h.1 (t.0 tt))),
   (λ e. (s.0 tt, t.0 tt), λ h. refl),
 )
 in_turn true false A B s t = (
-  (λ e. let n = ap told e in absurd (omega arith), λ h. absurd (h (s.0 tt))),
+  (λ e. unlike e, λ h. absurd (h (s.0 tt))),
   (λ e. (s.0 tt, t.1), λ h. refl),
-  (λ e. let n = ap told e in absurd (omega arith), λ h. absurd (t.1 h.1)),
+  (λ e. cc, λ h. absurd (t.1 h.1)),
 )
 in_turn false b A B s t = (
   (λ e. s.1, λ h. refl),
-  (λ e. let n = ap told e in absurd (omega arith), λ h. absurd (s.1 h.0)),
-  (λ e. let n = ap told e in absurd (omega arith), λ h. absurd (s.1 h.0)),
+  (λ e. unlike (sym e), λ h. absurd (s.1 h.0)),
+  (λ e. cc, λ h. absurd (s.1 h.0)),
 )
 
 -- what making a plan refuses
