@@ -5,72 +5,80 @@ use crate::tables::{Tables, written};
 use board::Board;
 use board::perform::perform;
 use board::request::Request;
-use knowledge::fault::Fault;
+use knowledge::fault::{Cause, Fault};
 use std::alloc::AllocError;
 
 // What is not as it must be.
 #[derive(Clone, Copy, Debug)]
-pub enum What {
+pub enum Difference {
     // what a sheet says at a state
-    Read,
+    Read {
+        sheet: usize,
+        state: u64,
+    },
     // whether a sheet says a value at every state
-    All,
+    All {
+        sheet: usize,
+        value: bool,
+    },
     // the board's number of places
-    Width,
-    // an answer to a call, which the tables gave otherwise
-    Answer,
-    // a refusal, or that there is none
-    Refusal,
+    Width(usize),
+    // how a call ended, and how it must end
+    Answer {
+        given: Result<(), Fault>,
+        wanted: Result<(), Fault>,
+    },
+    // a call was refused that must be done
+    Refusal(Fault),
+    // a grid was made outside the limits
+    Made {
+        length: usize,
+        width: usize,
+    },
+    // a grid that was not made did not hand its memory back as it was
+    HandedBack {
+        length: usize,
+        width: usize,
+    },
+    // the number of bytes of a grid's memory
+    Length(usize),
     // a byte of a grid's memory
-    Byte,
+    Byte {
+        index: usize,
+        byte: u8,
+    },
     // there was no memory for the test
-    Memory,
-}
-
-// A difference: at which sheet or byte, and at which state or refusal.
-#[derive(Clone, Copy, Debug)]
-pub struct Difference {
-    what: What,
-    place: usize,
-    number: usize,
-}
-
-impl Difference {
-    pub fn new(what: What, place: usize, number: usize) -> Difference {
-        Difference {
-            what,
-            place,
-            number,
-        }
-    }
+    NoMemory,
 }
 
 impl From<Fault> for Difference {
     fn from(fault: Fault) -> Difference {
-        Difference::new(
-            What::Refusal,
-            fault.place,
-            usize::from(fault.cause.number()),
-        )
+        Difference::Refusal(fault)
     }
 }
 
 impl From<AllocError> for Difference {
     fn from(_: AllocError) -> Difference {
-        Difference::new(What::Memory, 0, 0)
+        Difference::NoMemory
     }
 }
 
-// The sheet says the same at every state, by both questions.
-pub fn same_sheet<B: Board>(board: &B, tables: &Tables, sheet: usize) -> Result<(), Difference> {
-    for state in 0..tables.states() {
-        if board.read(sheet, state as u64)? != tables.says(sheet, state) {
-            return Err(Difference::new(What::Read, sheet, state));
+// The sheet says the same at every state, or the opposite if it is flipped, by both questions.
+pub fn same_sheet<B: Board>(
+    board: &B,
+    tables: &Tables,
+    sheet: usize,
+    flipped: bool,
+) -> Result<(), Difference> {
+    for (state, says) in tables.sheet(sheet).iter().enumerate() {
+        let state = state as u64;
+        if board.read(sheet, state)? != *says ^ flipped {
+            return Err(Difference::Read { sheet, state });
         }
     }
     for value in [false, true] {
-        if board.all(sheet, value)? != tables.all(sheet, value) {
-            return Err(Difference::new(What::All, sheet, usize::from(value)));
+        if board.all(sheet, value)? != tables.all(sheet, value ^ flipped) {
+            return Err(Difference::All { sheet, value });
         }
     }
     Ok(())
@@ -79,10 +87,10 @@ pub fn same_sheet<B: Board>(board: &B, tables: &Tables, sheet: usize) -> Result<
 // All sheets say the same.
 pub fn same_sheets<B: Board>(board: &B, tables: &Tables) -> Result<(), Difference> {
     if board.width() != tables.width() {
-        return Err(Difference::new(What::Width, 0, board.width()));
+        return Err(Difference::Width(board.width()));
     }
     for sheet in 0..64 {
-        same_sheet(board, tables, sheet)?;
+        same_sheet(board, tables, sheet, false)?;
     }
     Ok(())
 }
@@ -94,11 +102,9 @@ pub fn same_call<B: Board>(
     request: Request,
 ) -> Result<(), Difference> {
     let sheet = written(request);
-    if perform(board, request) != tables.perform(request) {
-        return Err(Difference::new(What::Answer, sheet, 0));
-    }
+    ends(perform(board, request), tables.perform(request))?;
     if sheet < 64 {
-        same_sheet(board, tables, sheet)?;
+        same_sheet(board, tables, sheet, false)?;
     }
     Ok(())
 }
@@ -158,17 +164,25 @@ fn mixed(p: usize) -> [Request; 4] {
     ]
 }
 
-// The call was refused by a board, with this number and place; with number 0 it was not refused.
-pub fn ends<A: Drop>(answer: Result<A, Fault>, number: u8, place: usize) -> Result<(), Difference> {
-    let as_told = match answer {
-        Ok(_) => number == 0,
-        Err(fault) => fault.cause.number() == number
-            && fault.layer.letter() == "B"
-            && fault.place == place,
-    };
-    if as_told {
+// A call whose first sheet is this one names a sheet that no board has.
+pub fn no_sheet(first: usize) -> Result<(), Fault> {
+    Err(Fault::in_board(Cause::Sheet, first))
+}
+
+// A call whose first sheet is this one names a place that the board does not have, or a code that is none.
+pub fn no_place(first: usize) -> Result<(), Fault> {
+    Err(Fault::in_board(Cause::Place, first))
+}
+
+// The call ended as it must.
+pub fn ends<A: Drop>(
+    answer: Result<A, Fault>,
+    wanted: Result<(), Fault>,
+) -> Result<(), Difference> {
+    let given = answer.map(|_| ());
+    if given == wanted {
         Ok(())
     } else {
-        Err(Difference::new(What::Refusal, place, usize::from(number)))
+        Err(Difference::Answer { given, wanted })
     }
 }

@@ -9,29 +9,14 @@ use sign::Sign;
 use std::alloc::Global;
 use std::test::Fail;
 
-// The sheet says the opposite of the tables.
-fn opposite<B: Board>(board: &B, tables: &Tables, sheet: usize) -> Result<(), Difference> {
-    for state in 0..tables.states() {
-        if board.read(sheet, state as u64)? == tables.says(sheet, state) {
-            return Err(Difference::new(What::Read, sheet, state));
-        }
-    }
-    for value in [false, true] {
-        if board.all(sheet, value)? != tables.all(sheet, !value) {
-            return Err(Difference::new(What::All, sheet, usize::from(value)));
-        }
-    }
-    Ok(())
-}
-
 // A flip is refused for the sheet alone.
 fn flips<B: Board>(board: &mut B, tables: &Tables) -> Result<(), Difference> {
     for sheet in 0..64 {
         board.flip(sheet)?;
-        opposite(board, tables, sheet)?;
+        same_sheet(board, tables, sheet, true)?;
     }
-    ends(board.flip(64), 15, 64)?;
-    ends(board.flip(usize::MAX), 15, usize::MAX)
+    ends(board.flip(64), no_sheet(64))?;
+    ends(board.flip(usize::MAX), no_sheet(usize::MAX))
 }
 
 // A sign over a used board says what is below, and then the opposite where it was flipped. The board below stays as it was.
@@ -80,11 +65,7 @@ fn marks<B: Board + Drop>(
     let mut board = Sign::over(below);
     fill(&mut board, &mut tables)?;
     both(&mut board, &mut tables, &[flip(0), flip(1), request])?;
-    if marked {
-        opposite(&board.into_below(), &tables, 1)
-    } else {
-        same_sheet(&board.into_below(), &tables, 1)
-    }
+    same_sheet(&board.into_below(), &tables, 1, marked)
 }
 
 #[test]
