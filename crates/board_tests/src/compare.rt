@@ -115,12 +115,10 @@ pub fn same_calls<B: Board>(
     tables: &mut Tables,
     calls: usize,
 ) -> Result<(), Difference> {
-    let mut source = Source::new(1);
-    for turn in 0..calls {
+    for (turn, request) in Source::new(1, tables.width()).take(calls).enumerate() {
         if turn % 100 == 0 {
             same_sheets(board, tables)?;
         }
-        let request = source.request(tables.width());
         same_call(board, tables, request)?;
     }
     same_sheets(board, tables)

@@ -5,6 +5,7 @@ use crate::requests::*;
 use crate::tables::Tables;
 use board::Board;
 use board::perform::perform;
+use board::request::Quantifier::{Exists, ForAll};
 use board::request::Request;
 use knowledge::fault::Fault;
 use std::test::Fail;
@@ -36,14 +37,14 @@ fn at_sheets(width: usize) -> [Edge; 32] {
         (flip(63), Ok(())),
         (flip(64), no_sheet(64)),
         (flip(MAX), no_sheet(MAX)),
-        (for_all(63, 63, 0), Ok(())),
-        (for_all(64, 0, 0), no_sheet(64)),
-        (for_all(1, 64, 0), no_sheet(1)),
-        (for_all(2, 64, width), no_sheet(2)),
-        (exists(63, 2, 0), Ok(())),
-        (exists(64, 0, width), no_sheet(64)),
-        (exists(2, MAX, 0), no_sheet(2)),
-        (exists(0, MAX, MAX), no_sheet(0)),
+        (quantify(63, 63, 0, ForAll), Ok(())),
+        (quantify(64, 0, 0, ForAll), no_sheet(64)),
+        (quantify(1, 64, 0, ForAll), no_sheet(1)),
+        (quantify(2, 64, width, ForAll), no_sheet(2)),
+        (quantify(63, 2, 0, Exists), Ok(())),
+        (quantify(64, 0, width, Exists), no_sheet(64)),
+        (quantify(2, MAX, 0, Exists), no_sheet(2)),
+        (quantify(0, MAX, MAX, Exists), no_sheet(0)),
         (fix(63, 63, 0, true), Ok(())),
         (fix(64, 0, 0, true), no_sheet(64)),
         (fix(63, 64, 0, false), no_sheet(63)),
@@ -61,12 +62,12 @@ fn at_places(last: usize, width: usize) -> [Edge; 18] {
         (join(4, 0, 1, 15), Ok(())),
         (join(4, 0, 1, 16), no_place(4)),
         (join(0, 1, 2, 255), no_place(0)),
-        (for_all(5, 0, last), Ok(())),
-        (for_all(5, 0, width), no_place(5)),
-        (for_all(0, 5, MAX), no_place(0)),
-        (exists(6, 1, last), Ok(())),
-        (exists(6, 1, width), no_place(6)),
-        (exists(1, 6, MAX), no_place(1)),
+        (quantify(5, 0, last, ForAll), Ok(())),
+        (quantify(5, 0, width, ForAll), no_place(5)),
+        (quantify(0, 5, MAX, ForAll), no_place(0)),
+        (quantify(6, 1, last, Exists), Ok(())),
+        (quantify(6, 1, width, Exists), no_place(6)),
+        (quantify(1, 6, MAX, Exists), no_place(1)),
         (fix(7, 2, last, false), Ok(())),
         (fix(7, 2, width, false), no_place(7)),
         (fix(2, 7, MAX, false), no_place(2)),

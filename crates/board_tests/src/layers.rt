@@ -4,6 +4,7 @@ use crate::making::grid;
 use crate::requests::*;
 use crate::tables::Tables;
 use board::Board;
+use board::request::Quantifier::{Exists, ForAll};
 use board::request::Request;
 use sign::Sign;
 use std::alloc::Global;
@@ -46,9 +47,9 @@ fn marking() -> [(Request, bool); 10] {
         (join(1, 0, 2, 8), false),
         (join(1, 2, 0, 11), false),
         (join(1, 0, 0, 6), false),
-        (for_all(1, 0, 3), true),
-        (exists(1, 0, 3), true),
-        (for_all(1, 2, 3), false),
+        (quantify(1, 0, 3, ForAll), true),
+        (quantify(1, 0, 3, Exists), true),
+        (quantify(1, 2, 3, ForAll), false),
         (fix(1, 0, 1, true), true),
         (fix(1, 2, 1, true), false),
     ]

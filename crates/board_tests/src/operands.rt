@@ -4,6 +4,7 @@ use crate::piles::{Exam, on_piles};
 use crate::requests::*;
 use crate::tables::Tables;
 use board::Board;
+use board::request::Quantifier::{Exists, ForAll};
 use board::request::Request;
 use std::test::Fail;
 
@@ -21,10 +22,10 @@ fn joins(c: u8) -> [Request; 5] {
 // The sheet written apart, and read.
 fn at_place(p: usize) -> [Request; 8] {
     [
-        for_all(3, 0, p),
-        for_all(0, 0, p),
-        exists(3, 1, p),
-        exists(1, 1, p),
+        quantify(3, 0, p, ForAll),
+        quantify(0, 0, p, ForAll),
+        quantify(3, 1, p, Exists),
+        quantify(1, 1, p, Exists),
         fix(63, 2, p, false),
         fix(2, 2, p, false),
         fix(63, 2, p, true),
