@@ -63,91 +63,95 @@ impl From<AllocError> for Difference {
     }
 }
 
-// The sheet says the same at every state, or the opposite if it is flipped, by both questions.
-pub fn same_sheet<B: Board>(
-    board: &B,
-    tables: &Tables,
-    sheet: usize,
-    flipped: bool,
-) -> Result<(), Difference> {
-    for (state, says) in tables.sheet(sheet).iter().enumerate() {
-        let state = state as u64;
-        if board.read(sheet, state)? != *says ^ flipped {
-            return Err(Difference::Read { sheet, state });
+// A board, and the tables that it is held against.
+#[derive(Drop)]
+pub struct Pair<B> {
+    pub board: B,
+    pub tables: Tables,
+}
+
+impl<B> Pair<B> {
+    // What is made of the board, beside the same tables.
+    pub fn map<C, F: FnOnce(B) -> C>(self, change: F) -> Pair<C>
+        requires { F.IsAlwaysCallable change }
+    {
+        let Pair { board, tables } = self;
+        Pair {
+            board: change(board),
+            tables,
         }
     }
-    for value in [false, true] {
-        if board.all(sheet, value)? != tables.all(sheet, value ^ flipped) {
-            return Err(Difference::All { sheet, value });
+}
+
+impl<B: Board> Pair<B> {
+    // The sheet says the same at every state, or the opposite if it is flipped, by both questions.
+    pub fn same_sheet(&self, sheet: usize, flipped: bool) -> Result<(), Difference> {
+        for (state, says) in self.tables.sheet(sheet).iter().enumerate() {
+            let state = state as u64;
+            if self.board.read(sheet, state)? != *says ^ flipped {
+                return Err(Difference::Read { sheet, state });
+            }
         }
-    }
-    Ok(())
-}
-
-// All sheets say the same.
-pub fn same_sheets<B: Board>(board: &B, tables: &Tables) -> Result<(), Difference> {
-    if board.width() != tables.width() {
-        return Err(Difference::Width(board.width()));
-    }
-    for sheet in 0..64 {
-        same_sheet(board, tables, sheet, false)?;
-    }
-    Ok(())
-}
-
-// Makes a call on both; the answers and the sheet written are the same.
-pub fn same_call<B: Board>(
-    board: &mut B,
-    tables: &mut Tables,
-    request: Request,
-) -> Result<(), Difference> {
-    let sheet = written(request);
-    ends(perform(board, request), tables.perform(request))?;
-    if sheet < 64 {
-        same_sheet(board, tables, sheet, false)?;
-    }
-    Ok(())
-}
-
-// Makes so many generated calls on both, and looks at all sheets now and then.
-pub fn same_calls<B: Board>(
-    board: &mut B,
-    tables: &mut Tables,
-    calls: usize,
-) -> Result<(), Difference> {
-    for (turn, request) in Source::new(1, tables.width()).take(calls).enumerate() {
-        if turn % 100 == 0 {
-            same_sheets(board, tables)?;
+        for value in [false, true] {
+            if self.board.all(sheet, value)? != self.tables.all(sheet, value ^ flipped) {
+                return Err(Difference::All { sheet, value });
+            }
         }
-        same_call(board, tables, request)?;
+        Ok(())
     }
-    same_sheets(board, tables)
-}
 
-// Makes calls on both, which are done.
-pub fn both<B: Board>(
-    board: &mut B,
-    tables: &mut Tables,
-    calls: &[Request],
-) -> Result<(), Difference> {
-    for request in calls {
-        perform(board, *request)?;
-        tables.perform(*request)?;
+    // All sheets say the same.
+    pub fn same_sheets(&self) -> Result<(), Difference> {
+        if self.board.width() != self.tables.width() {
+            return Err(Difference::Width(self.board.width()));
+        }
+        for sheet in 0..64 {
+            self.same_sheet(sheet, false)?;
+        }
+        Ok(())
     }
-    Ok(())
-}
 
-// Writes functions that rely on all places into sheets 0, 1 and 2, by way of sheet 3.
-pub fn fill<B: Board>(board: &mut B, tables: &mut Tables) -> Result<(), Difference> {
-    both(
-        board,
-        tables,
-        &[blank(0, false), blank(1, false), blank(2, true)],
-    )?;
-    for p in 0..tables.width() {
-        both(board, tables, &mixed(p))?;
+    // Makes a call on both; the answers and the sheet written are the same.
+    fn same_call(&mut self, request: Request) -> Result<(), Difference> {
+        let sheet = written(request);
+        ends(
+            perform(&mut self.board, request),
+            self.tables.perform(request),
+        )?;
+        if sheet < 64 {
+            self.same_sheet(sheet, false)?;
+        }
+        Ok(())
     }
-    Ok(())
+
+    // Makes so many generated calls on both, and looks at all sheets now and then.
+    pub fn same_calls(&mut self, calls: usize) -> Result<(), Difference> {
+        for (turn, request) in Source::new(1, self.tables.width()).take(calls).enumerate() {
+            if turn % 100 == 0 {
+                self.same_sheets()?;
+            }
+            self.same_call(request)?;
+        }
+        self.same_sheets()
+    }
+
+    // Makes calls on both, which are done.
+    pub fn both(&mut self, calls: &[Request]) -> Result<(), Difference> {
+        for request in calls {
+            perform(&mut self.board, *request)?;
+            self.tables.perform(*request)?;
+        }
+        Ok(())
+    }
+
+    // Writes functions that rely on all places into sheets 0, 1 and 2, by way of sheet 3.
+    pub fn fill(&mut self) -> Result<(), Difference> {
+        self.both(&[blank(0, false), blank(1, false), blank(2, true)])?;
+        for p in 0..self.tables.width() {
+            self.both(&mixed(p))?;
+        }
+        Ok(())
+    }
 }
 
 // Mixes a place into three sheets, in three ways.

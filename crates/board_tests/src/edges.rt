@@ -2,7 +2,6 @@
 use crate::compare::*;
 use crate::piles::{Exam, on_piles};
 use crate::requests::*;
-use crate::tables::Tables;
 use board::Board;
 use board::perform::perform;
 use board::request::Quantifier::{Exists, ForAll};
@@ -54,7 +53,8 @@ fn at_sheets(width: usize) -> [Edge; 32] {
 }
 
 // The last place and the first past it, the last code and the first past it.
-fn at_places(last: usize, width: usize) -> [Edge; 18] {
+fn at_places(width: usize) -> [Edge; 18] {
+    let last = width.saturating_sub(1);
     [
         (atom(4, last), Ok(())),
         (atom(4, width), no_place(4)),
@@ -78,15 +78,11 @@ fn at_places(last: usize, width: usize) -> [Edge; 18] {
 }
 
 // Each call ends as listed, and changes no sheet but the one that it writes.
-fn end_as_listed<B: Board>(
-    board: &mut B,
-    tables: &mut Tables,
-    edges: &[Edge],
-) -> Result<(), Difference> {
+fn end_as_listed<B: Board>(pair: &mut Pair<B>, edges: &[Edge]) -> Result<(), Difference> {
     for (request, wanted) in edges {
-        ends(perform(board, *request), *wanted)?;
-        ends(tables.perform(*request), *wanted)?;
-        same_sheets(board, tables)?;
+        ends(perform(&mut pair.board, *request), *wanted)?;
+        ends(pair.tables.perform(*request), *wanted)?;
+        pair.same_sheets()?;
     }
     Ok(())
 }
@@ -103,13 +99,14 @@ fn questions<B: Board>(board: &B) -> Result<(), Difference> {
 }
 
 // States with bits from the width up: such bits do not count.
-fn past_the_width<B: Board>(board: &B, tables: &Tables) -> Result<(), Difference> {
-    let states = tables.sheet(0).len() as u64;
-    for (state, says) in tables.sheet(0).iter().enumerate() {
+fn past_the_width<B: Board>(pair: &Pair<B>) -> Result<(), Difference> {
+    let values = pair.tables.sheet(0);
+    let states = values.len() as u64;
+    for (state, says) in values.iter().enumerate() {
         // the first such bit, and then all of them
         for more in [states, states.wrapping_neg()] {
             let state = state as u64 | more;
-            if board.read(0, state)? != *says {
+            if pair.board.read(0, state)? != *says {
                 return Err(Difference::Read { sheet: 0, state });
             }
         }
@@ -118,31 +115,23 @@ fn past_the_width<B: Board>(board: &B, tables: &Tables) -> Result<(), Difference
 }
 
 // All edges of a board.
-struct Edges {
-    last: usize,
-    width: usize,
-}
+struct Edges;
 
 impl Exam for Edges {
-    fn take<B: Board>(&self, board: &mut B, tables: &mut Tables) -> Result<(), Difference> {
-        fill(board, tables)?;
-        end_as_listed(board, tables, &at_sheets(self.width))?;
-        end_as_listed(board, tables, &at_places(self.last, self.width))?;
-        questions(board)?;
-        past_the_width(board, tables)
+    fn take<B: Board>(&self, pair: &mut Pair<B>) -> Result<(), Difference> {
+        let width = pair.tables.width();
+        pair.fill()?;
+        end_as_listed(pair, &at_sheets(width))?;
+        end_as_listed(pair, &at_places(width))?;
+        questions(&pair.board)?;
+        past_the_width(pair)
     }
 }
 
 #[test]
 fn of_all_calls(rt: HostRuntime) -> Result<(), Fail> {
-    on_piles(&Edges { last: 0, width: 1 }, rt.alloc(), 1)?;
-    on_piles(
-        &Edges {
-            last: 11,
-            width: 12,
-        },
-        rt.alloc(),
-        12,
-    )?;
+    for width in [1, 12] {
+        on_piles(&Edges, rt.alloc(), width)?;
+    }
     Ok(())
 }

@@ -108,9 +108,9 @@ struct Count {
 
 // How 4,000 generated calls end, by their kinds.
 fn counts(heap: Global, tables: &mut Tables) -> Result<BTreeMap<Kind, Count>, AllocError> {
-    let mut counts = BTreeMap::new(heap);
+    let mut counts: BTreeMap<Kind, Count> = BTreeMap::new(heap);
     for request in Source::new(1, tables.width()).take(4000) {
-        let count: &mut Count = counts.entry(Kind::from(request))?.or_default();
+        let count = counts.entry(Kind::from(request))?.or_default();
         match tables.perform(request) {
             Ok(()) => count.done = count.done.saturating_add(1),
             Err(_) => count.refused = count.refused.saturating_add(1),

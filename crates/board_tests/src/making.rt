@@ -16,9 +16,11 @@ fn used_byte(k: usize) -> u8 {
     (k % 251) as u8 + 3
 }
 
-// A new grid in used memory.
-pub fn grid(heap: Global, width: usize) -> Result<Grid, Difference> {
-    Grid::new(used(heap, 32768)?, width).map_err(|unmade| Difference::from(unmade.fault))
+// A new grid in used memory, beside new tables.
+pub fn grid(heap: Global, width: usize) -> Result<Pair<Grid>, Difference> {
+    let tables = Tables::new(heap, width)?;
+    let board = Grid::new(used(heap, 32768)?, width).map_err(|unmade| unmade.fault)?;
+    Ok(Pair { board, tables })
 }
 
 // The making is refused, and hands the memory back as it was.
@@ -69,10 +71,10 @@ fn lies_by_rule(bytes: &[u8], tables: &Tables) -> Result<(), Difference> {
 #[test]
 fn layout(rt: HostRuntime) -> Result<(), Fail> {
     for width in 1..13 {
-        let mut board = grid(rt.alloc(), width)?;
-        let mut tables = Tables::new(rt.alloc(), width)?;
-        same_calls(&mut board, &mut tables, 150)?;
-        lies_by_rule(board.bytes(), &tables)?;
+        let mut pair = grid(rt.alloc(), width)?;
+        pair.same_calls(150)?;
+        lies_by_rule(pair.board.bytes(), &pair.tables)?;
+        let Pair { board, tables } = pair;
         lies_by_rule(board.into_memory().as_slice(), &tables)?;
     }
     Ok(())

@@ -2,7 +2,6 @@
 use crate::compare::*;
 use crate::piles::{Exam, on_piles};
 use crate::requests::*;
-use crate::tables::Tables;
 use board::Board;
 use board::request::Quantifier::{Exists, ForAll};
 use board::request::Request;
@@ -34,15 +33,11 @@ fn at_place(p: usize) -> [Request; 8] {
 }
 
 // Makes each call on sheets filled anew, and looks at all of them.
-fn filled_calls<B: Board>(
-    board: &mut B,
-    tables: &mut Tables,
-    calls: &[Request],
-) -> Result<(), Difference> {
+fn filled_calls<B: Board>(pair: &mut Pair<B>, calls: &[Request]) -> Result<(), Difference> {
     for request in calls {
-        fill(board, tables)?;
-        both(board, tables, &[*request])?;
-        same_sheets(board, tables)?;
+        pair.fill()?;
+        pair.both(&[*request])?;
+        pair.same_sheets()?;
     }
     Ok(())
 }
@@ -51,12 +46,12 @@ fn filled_calls<B: Board>(
 struct Operands;
 
 impl Exam for Operands {
-    fn take<B: Board>(&self, board: &mut B, tables: &mut Tables) -> Result<(), Difference> {
+    fn take<B: Board>(&self, pair: &mut Pair<B>) -> Result<(), Difference> {
         for c in 0..16 {
-            filled_calls(board, tables, &joins(c))?;
+            filled_calls(pair, &joins(c))?;
         }
-        for p in 0..tables.width() {
-            filled_calls(board, tables, &at_place(p))?;
+        for p in 0..pair.tables.width() {
+            filled_calls(pair, &at_place(p))?;
         }
         Ok(())
     }

@@ -2,7 +2,6 @@
 use crate::compare::*;
 use crate::piles::{Exam, on_piles};
 use crate::requests::*;
-use crate::tables::Tables;
 use board::Board;
 use board::perform::perform_all;
 use board::request::Request;
@@ -11,33 +10,26 @@ use std::test::Fail;
 
 // Makes calls in turn, which end like this up to the first that is refused.
 fn in_turn<B: Board>(
-    board: &mut B,
-    tables: &mut Tables,
+    pair: &mut Pair<B>,
     calls: &[Request],
     wanted: Result<(), Fault>,
 ) -> Result<(), Difference> {
-    ends(perform_all(board, calls), wanted)?;
-    ends(tables.perform_all(calls), wanted)?;
-    same_sheets(board, tables)
+    ends(perform_all(&mut pair.board, calls), wanted)?;
+    ends(pair.tables.perform_all(calls), wanted)?;
+    pair.same_sheets()
 }
 
 // Lists with a refusal at no call, at the first, and further on.
 struct Turns;
 
 impl Exam for Turns {
-    fn take<B: Board>(&self, board: &mut B, tables: &mut Tables) -> Result<(), Difference> {
-        fill(board, tables)?;
-        in_turn(board, tables, &[], Ok(()))?;
-        in_turn(board, tables, &[flip(0), join(5, 0, 1, 14)], Ok(()))?;
+    fn take<B: Board>(&self, pair: &mut Pair<B>) -> Result<(), Difference> {
+        pair.fill()?;
+        in_turn(pair, &[], Ok(()))?;
+        in_turn(pair, &[flip(0), join(5, 0, 1, 14)], Ok(()))?;
+        in_turn(pair, &[atom(9, 4), blank(8, true), flip(64)], no_place(9))?;
         in_turn(
-            board,
-            tables,
-            &[atom(9, 4), blank(8, true), flip(64)],
-            no_place(9),
-        )?;
-        in_turn(
-            board,
-            tables,
+            pair,
             &[flip(5), flip(6), join(9, 0, 64, 8), blank(8, true)],
             no_sheet(9),
         )
