@@ -19,7 +19,8 @@ fn flips<B: Board>(pair: &mut Pair<B>) -> Result<(), Difference> {
     ends(pair.board.flip(usize::MAX), no_sheet(usize::MAX))
 }
 
-// A sign over a used board says what is below, and then the opposite where it was flipped. The board below stays as it was.
+// A sign over a used board says what is below, and then the opposite where it was flipped. The board below stays as
+// it was.
 fn over_a_board<B: Board + Drop>(mut below: Pair<B>) -> Result<(), Difference> {
     below.same_calls(300)?;
     let mut pair = below.map(Sign::over);

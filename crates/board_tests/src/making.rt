@@ -47,8 +47,8 @@ fn outside_the_limits(rt: HostRuntime) -> Result<(), Fail> {
     Ok(())
 }
 
-// Byte k of a grid by the rule: sheet i is the i-th block of 512 bytes, and state j is bit j mod 8 of the block's byte j div 8;
-// bits past the states are 0.
+// Byte k of a grid by the rule: sheet i is the i-th block of 512 bytes, and state j is bit j mod 8 of the block's byte
+// j div 8; bits past the states are 0.
 fn byte_by_rule(tables: &Tables, k: usize) -> u8 {
     (0..8)
         .filter(|bit| tables.says(k / 512, k % 512 * 8 + bit))

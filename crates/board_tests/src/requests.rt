@@ -1,5 +1,5 @@
-// Requests in few letters. As in the rules, d is the sheet written, a and b are sheets read, p is a place, v a value, c a
-// code, and q a quantifier.
+// Requests in few letters. As in the rules, d is the sheet written, a and b are sheets read, p is a place, v a value,
+// c a code and q a quantifier.
 use board::request::{Quantifier, Request};
 
 pub fn blank(d: usize, v: bool) -> Request {

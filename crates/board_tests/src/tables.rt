@@ -9,7 +9,7 @@ use std::mem;
 pub struct Tables {
     width: usize,
     sheets: Vec<Vec<bool>>,
-    // what the next call writes, before it takes its sheet's place
+    // what the next call writes, kept apart since it may read the sheet that it writes
     next: Vec<bool>,
 }
 
@@ -34,10 +34,9 @@ impl Tables {
 
     // What the sheet says at each state.
     pub fn sheet(&self, sheet: usize) -> &[bool] {
-        match self.sheets.get(sheet) {
-            Some(values) => values,
-            None => &[],
-        }
+        self.sheets
+            .get(sheet)
+            .map_or(&[], |values| values.as_slice())
     }
 
     // What the sheet says at the state; no past the states.
