@@ -166,14 +166,9 @@ fn mixed(p: usize) -> [Request; 4] {
     ]
 }
 
-// A call whose first sheet is this one names a sheet that no board has.
-pub fn no_sheet(first: usize) -> Result<(), Fault> {
-    Err(Fault::in_board(Cause::Sheet, first))
-}
-
-// A call whose first sheet is this one names a place that the board does not have, or a code that is none.
-pub fn no_place(first: usize) -> Result<(), Fault> {
-    Err(Fault::in_board(Cause::Place, first))
+// How a call ends that a board refuses for this cause, by the first sheet of the call.
+pub fn refusal(cause: Cause, sheet: usize) -> Result<(), Fault> {
+    Err(Fault::in_board(cause, sheet))
 }
 
 // The call ended as it must.

@@ -6,6 +6,7 @@ use board::Board;
 use board::perform::perform;
 use board::request::Quantifier::{Exists, ForAll};
 use board::request::Request;
+use knowledge::fault::Cause::{Place, Sheet};
 use knowledge::fault::Fault;
 use std::test::Fail;
 
@@ -18,37 +19,37 @@ type Edge = (Request, Result<(), Fault>);
 fn at_sheets(width: usize) -> [Edge; 32] {
     [
         (blank(63, true), Ok(())),
-        (blank(64, true), no_sheet(64)),
-        (blank(MAX, false), no_sheet(MAX)),
+        (blank(64, true), refusal(Sheet, 64)),
+        (blank(MAX, false), refusal(Sheet, MAX)),
         (atom(63, 0), Ok(())),
-        (atom(64, 0), no_sheet(64)),
-        (atom(MAX, 0), no_sheet(MAX)),
-        (atom(64, width), no_sheet(64)),
-        (atom(MAX, MAX), no_sheet(MAX)),
+        (atom(64, 0), refusal(Sheet, 64)),
+        (atom(MAX, 0), refusal(Sheet, MAX)),
+        (atom(64, width), refusal(Sheet, 64)),
+        (atom(MAX, MAX), refusal(Sheet, MAX)),
         (join(63, 63, 63, 7), Ok(())),
-        (join(64, 0, 1, 6), no_sheet(64)),
-        (join(0, 64, 1, 6), no_sheet(0)),
-        (join(1, 0, 64, 6), no_sheet(1)),
-        (join(64, 0, 0, 16), no_sheet(64)),
-        (join(0, 64, 0, 16), no_sheet(0)),
-        (join(1, 0, 64, 255), no_sheet(1)),
-        (join(MAX, 0, 0, 6), no_sheet(MAX)),
+        (join(64, 0, 1, 6), refusal(Sheet, 64)),
+        (join(0, 64, 1, 6), refusal(Sheet, 0)),
+        (join(1, 0, 64, 6), refusal(Sheet, 1)),
+        (join(64, 0, 0, 16), refusal(Sheet, 64)),
+        (join(0, 64, 0, 16), refusal(Sheet, 0)),
+        (join(1, 0, 64, 255), refusal(Sheet, 1)),
+        (join(MAX, 0, 0, 6), refusal(Sheet, MAX)),
         (flip(63), Ok(())),
-        (flip(64), no_sheet(64)),
-        (flip(MAX), no_sheet(MAX)),
+        (flip(64), refusal(Sheet, 64)),
+        (flip(MAX), refusal(Sheet, MAX)),
         (quantify(63, 63, 0, ForAll), Ok(())),
-        (quantify(64, 0, 0, ForAll), no_sheet(64)),
-        (quantify(1, 64, 0, ForAll), no_sheet(1)),
-        (quantify(2, 64, width, ForAll), no_sheet(2)),
+        (quantify(64, 0, 0, ForAll), refusal(Sheet, 64)),
+        (quantify(1, 64, 0, ForAll), refusal(Sheet, 1)),
+        (quantify(2, 64, width, ForAll), refusal(Sheet, 2)),
         (quantify(63, 2, 0, Exists), Ok(())),
-        (quantify(64, 0, width, Exists), no_sheet(64)),
-        (quantify(2, MAX, 0, Exists), no_sheet(2)),
-        (quantify(0, MAX, MAX, Exists), no_sheet(0)),
+        (quantify(64, 0, width, Exists), refusal(Sheet, 64)),
+        (quantify(2, MAX, 0, Exists), refusal(Sheet, 2)),
+        (quantify(0, MAX, MAX, Exists), refusal(Sheet, 0)),
         (fix(63, 63, 0, true), Ok(())),
-        (fix(64, 0, 0, true), no_sheet(64)),
-        (fix(63, 64, 0, false), no_sheet(63)),
-        (fix(1, 64, width, false), no_sheet(1)),
-        (fix(MAX, MAX, MAX, true), no_sheet(MAX)),
+        (fix(64, 0, 0, true), refusal(Sheet, 64)),
+        (fix(63, 64, 0, false), refusal(Sheet, 63)),
+        (fix(1, 64, width, false), refusal(Sheet, 1)),
+        (fix(MAX, MAX, MAX, true), refusal(Sheet, MAX)),
     ]
 }
 
@@ -57,23 +58,23 @@ fn at_places(width: usize) -> [Edge; 18] {
     let last = width.saturating_sub(1);
     [
         (atom(4, last), Ok(())),
-        (atom(4, width), no_place(4)),
-        (atom(63, MAX), no_place(63)),
+        (atom(4, width), refusal(Place, 4)),
+        (atom(63, MAX), refusal(Place, 63)),
         (join(4, 0, 1, 15), Ok(())),
-        (join(4, 0, 1, 16), no_place(4)),
-        (join(0, 1, 2, 255), no_place(0)),
+        (join(4, 0, 1, 16), refusal(Place, 4)),
+        (join(0, 1, 2, 255), refusal(Place, 0)),
         (quantify(5, 0, last, ForAll), Ok(())),
-        (quantify(5, 0, width, ForAll), no_place(5)),
-        (quantify(0, 5, MAX, ForAll), no_place(0)),
+        (quantify(5, 0, width, ForAll), refusal(Place, 5)),
+        (quantify(0, 5, MAX, ForAll), refusal(Place, 0)),
         (quantify(6, 1, last, Exists), Ok(())),
-        (quantify(6, 1, width, Exists), no_place(6)),
-        (quantify(1, 6, MAX, Exists), no_place(1)),
+        (quantify(6, 1, width, Exists), refusal(Place, 6)),
+        (quantify(1, 6, MAX, Exists), refusal(Place, 1)),
         (fix(7, 2, last, false), Ok(())),
-        (fix(7, 2, width, false), no_place(7)),
-        (fix(2, 7, MAX, false), no_place(2)),
+        (fix(7, 2, width, false), refusal(Place, 7)),
+        (fix(2, 7, MAX, false), refusal(Place, 2)),
         (fix(8, 2, last, true), Ok(())),
-        (fix(8, 2, width, true), no_place(8)),
-        (fix(2, 8, MAX, true), no_place(2)),
+        (fix(8, 2, width, true), refusal(Place, 8)),
+        (fix(2, 8, MAX, true), refusal(Place, 2)),
     ]
 }
 
@@ -89,7 +90,11 @@ fn end_as_listed<B: Board>(pair: &mut Pair<B>, edges: &[Edge]) -> Result<(), Dif
 
 // Questions about the last sheet and the first past it.
 fn questions<B: Board>(board: &B) -> Result<(), Difference> {
-    for (sheet, wanted) in [(63, Ok(())), (64, no_sheet(64)), (MAX, no_sheet(MAX))] {
+    for (sheet, wanted) in [
+        (63, Ok(())),
+        (64, refusal(Sheet, 64)),
+        (MAX, refusal(Sheet, MAX)),
+    ] {
         for value in [false, true] {
             ends(board.all(sheet, value), wanted)?;
         }

@@ -6,6 +6,7 @@ use board::Board;
 use board::request::Quantifier::{Exists, ForAll};
 use board::request::Request;
 use grid::Grid;
+use knowledge::fault::Cause::Sheet;
 use sign::Sign;
 use std::test::Fail;
 
@@ -15,8 +16,8 @@ fn flips<B: Board>(pair: &mut Pair<B>) -> Result<(), Difference> {
         pair.board.flip(sheet)?;
         pair.same_sheet(sheet, true)?;
     }
-    ends(pair.board.flip(64), no_sheet(64))?;
-    ends(pair.board.flip(usize::MAX), no_sheet(usize::MAX))
+    ends(pair.board.flip(64), refusal(Sheet, 64))?;
+    ends(pair.board.flip(usize::MAX), refusal(Sheet, usize::MAX))
 }
 
 // A sign over a used board says what is below, and then the opposite where it was flipped. The board below stays as

@@ -3,7 +3,7 @@ use crate::compare::*;
 use crate::tables::Tables;
 use board::unmade::Unmade;
 use grid::Grid;
-use knowledge::fault::{Cause, Fault};
+use knowledge::fault::Cause::Table;
 use std::alloc::{AllocError, Global};
 use std::test::Fail;
 
@@ -31,7 +31,7 @@ fn refused(heap: Global, length: usize, width: usize) -> Result<(), Difference> 
     if memory != used(heap, length)? {
         return Err(Difference::HandedBack { length, width });
     }
-    ends(Err::<(), _>(fault), Err(Fault::in_board(Cause::Table, 0)))
+    ends(Err::<(), _>(fault), refusal(Table, 0))
 }
 
 #[test]

@@ -5,6 +5,7 @@ use crate::requests::*;
 use board::Board;
 use board::perform::perform_all;
 use board::request::Request;
+use knowledge::fault::Cause::{Place, Sheet};
 use knowledge::fault::Fault;
 use std::test::Fail;
 
@@ -27,11 +28,15 @@ impl Exam for Turns {
         pair.fill()?;
         in_turn(pair, &[], Ok(()))?;
         in_turn(pair, &[flip(0), join(5, 0, 1, 14)], Ok(()))?;
-        in_turn(pair, &[atom(9, 4), blank(8, true), flip(64)], no_place(9))?;
+        in_turn(
+            pair,
+            &[atom(9, 4), blank(8, true), flip(64)],
+            refusal(Place, 9),
+        )?;
         in_turn(
             pair,
             &[flip(5), flip(6), join(9, 0, 64, 8), blank(8, true)],
-            no_sheet(9),
+            refusal(Sheet, 9),
         )
     }
 }
