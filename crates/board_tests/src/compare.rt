@@ -5,145 +5,153 @@ use crate::tables::{Tables, written};
 use board::Board;
 use board::perform::perform;
 use board::request::Request;
-use knowledge::fault::Fault;
+use knowledge::fault::{Cause, Fault};
 use std::alloc::AllocError;
 
 // What is not as it must be.
 #[derive(Clone, Copy, Debug)]
-pub enum What {
+pub enum Difference {
     // what a sheet says at a state
-    Read,
+    Read {
+        sheet: usize,
+        state: u64,
+    },
     // whether a sheet says a value at every state
-    All,
+    All {
+        sheet: usize,
+        value: bool,
+    },
     // the board's number of places
-    Width,
-    // an answer to a call, which the tables gave otherwise
-    Answer,
-    // a refusal, or that there is none
-    Refusal,
+    Width(usize),
+    // how a call ended, and how it must end
+    Answer {
+        given: Result<(), Fault>,
+        wanted: Result<(), Fault>,
+    },
+    // a call was refused that must be done
+    Refusal(Fault),
+    // a grid was made outside the limits
+    Made {
+        length: usize,
+        width: usize,
+    },
+    // a grid that was not made did not hand its memory back as it was
+    HandedBack {
+        length: usize,
+        width: usize,
+    },
+    // the number of bytes of a grid's memory
+    Length(usize),
     // a byte of a grid's memory
-    Byte,
+    Byte {
+        index: usize,
+        byte: u8,
+    },
     // there was no memory for the test
-    Memory,
-}
-
-// A difference: at which sheet or byte, and at which state or refusal.
-#[derive(Clone, Copy, Debug)]
-pub struct Difference {
-    what: What,
-    place: usize,
-    number: usize,
-}
-
-impl Difference {
-    pub fn new(what: What, place: usize, number: usize) -> Difference {
-        Difference {
-            what,
-            place,
-            number,
-        }
-    }
+    NoMemory,
 }
 
 impl From<Fault> for Difference {
     fn from(fault: Fault) -> Difference {
-        Difference::new(
-            What::Refusal,
-            fault.place,
-            usize::from(fault.cause.number()),
-        )
+        Difference::Refusal(fault)
     }
 }
 
 impl From<AllocError> for Difference {
     fn from(_: AllocError) -> Difference {
-        Difference::new(What::Memory, 0, 0)
+        Difference::NoMemory
     }
 }
 
-// The sheet says the same at every state, by both questions.
-pub fn same_sheet<B: Board>(board: &B, tables: &Tables, sheet: usize) -> Result<(), Difference> {
-    for state in 0..tables.states() {
-        if board.read(sheet, state as u64)? != tables.says(sheet, state) {
-            return Err(Difference::new(What::Read, sheet, state));
+// A board, and the tables that it is held against.
+#[derive(Drop)]
+pub struct Pair<B> {
+    pub board: B,
+    pub tables: Tables,
+}
+
+impl<B> Pair<B> {
+    // What is made of the board, beside the same tables.
+    pub fn map<C, F: FnOnce(B) -> C>(self, change: F) -> Pair<C>
+        requires { F.IsAlwaysCallable change }
+    {
+        let Pair { board, tables } = self;
+        Pair {
+            board: change(board),
+            tables,
         }
     }
-    for value in [false, true] {
-        if board.all(sheet, value)? != tables.all(sheet, value) {
-            return Err(Difference::new(What::All, sheet, usize::from(value)));
+}
+
+impl<B: Board> Pair<B> {
+    // The sheet says the same at every state, or the opposite if it is flipped, by both questions.
+    pub fn same_sheet(&self, sheet: usize, flipped: bool) -> Result<(), Difference> {
+        for (state, says) in self.tables.sheet(sheet).iter().enumerate() {
+            let state = state as u64;
+            if self.board.read(sheet, state)? != *says ^ flipped {
+                return Err(Difference::Read { sheet, state });
+            }
         }
-    }
-    Ok(())
-}
-
-// All sheets say the same.
-pub fn same_sheets<B: Board>(board: &B, tables: &Tables) -> Result<(), Difference> {
-    if board.width() != tables.width() {
-        return Err(Difference::new(What::Width, 0, board.width()));
-    }
-    for sheet in 0..64 {
-        same_sheet(board, tables, sheet)?;
-    }
-    Ok(())
-}
-
-// Makes a call on both; the answers and the sheet written are the same.
-pub fn same_call<B: Board>(
-    board: &mut B,
-    tables: &mut Tables,
-    request: Request,
-) -> Result<(), Difference> {
-    let sheet = written(request);
-    if perform(board, request) != tables.perform(request) {
-        return Err(Difference::new(What::Answer, sheet, 0));
-    }
-    if sheet < 64 {
-        same_sheet(board, tables, sheet)?;
-    }
-    Ok(())
-}
-
-// Makes so many generated calls on both, and looks at all sheets now and then.
-pub fn same_calls<B: Board>(
-    board: &mut B,
-    tables: &mut Tables,
-    calls: usize,
-) -> Result<(), Difference> {
-    let mut source = Source::new(1);
-    for turn in 0..calls {
-        if turn % 100 == 0 {
-            same_sheets(board, tables)?;
+        for value in [false, true] {
+            if self.board.all(sheet, value)? != self.tables.all(sheet, value ^ flipped) {
+                return Err(Difference::All { sheet, value });
+            }
         }
-        let request = source.request(tables.width());
-        same_call(board, tables, request)?;
+        Ok(())
     }
-    same_sheets(board, tables)
-}
 
-// Makes calls on both, which are done.
-pub fn both<B: Board>(
-    board: &mut B,
-    tables: &mut Tables,
-    calls: &[Request],
-) -> Result<(), Difference> {
-    for request in calls {
-        perform(board, *request)?;
-        tables.perform(*request)?;
+    // All sheets say the same.
+    pub fn same_sheets(&self) -> Result<(), Difference> {
+        if self.board.width() != self.tables.width() {
+            return Err(Difference::Width(self.board.width()));
+        }
+        for sheet in 0..64 {
+            self.same_sheet(sheet, false)?;
+        }
+        Ok(())
     }
-    Ok(())
-}
 
-// Writes functions that rely on all places into sheets 0, 1 and 2, by way of sheet 3.
-pub fn fill<B: Board>(board: &mut B, tables: &mut Tables) -> Result<(), Difference> {
-    both(
-        board,
-        tables,
-        &[blank(0, false), blank(1, false), blank(2, true)],
-    )?;
-    for p in 0..tables.width() {
-        both(board, tables, &mixed(p))?;
+    // Makes a call on both; the answers and the sheet written are the same.
+    fn same_call(&mut self, request: Request) -> Result<(), Difference> {
+        let sheet = written(request);
+        ends(
+            perform(&mut self.board, request),
+            self.tables.perform(request),
+        )?;
+        if sheet < 64 {
+            self.same_sheet(sheet, false)?;
+        }
+        Ok(())
     }
-    Ok(())
+
+    // Makes so many generated calls on both, and looks at all sheets now and then.
+    pub fn same_calls(&mut self, calls: usize) -> Result<(), Difference> {
+        for (turn, request) in Source::new(1, self.tables.width()).take(calls).enumerate() {
+            if turn % 100 == 0 {
+                self.same_sheets()?;
+            }
+            self.same_call(request)?;
+        }
+        self.same_sheets()
+    }
+
+    // Makes calls on both, which are done.
+    pub fn both(&mut self, calls: &[Request]) -> Result<(), Difference> {
+        for request in calls {
+            perform(&mut self.board, *request)?;
+            self.tables.perform(*request)?;
+        }
+        Ok(())
+    }
+
+    // Writes functions that rely on all places into sheets 0, 1 and 2, by way of sheet 3.
+    pub fn fill(&mut self) -> Result<(), Difference> {
+        self.both(&[blank(0, false), blank(1, false), blank(2, true)])?;
+        for p in 0..self.tables.width() {
+            self.both(&mixed(p))?;
+        }
+        Ok(())
+    }
 }
 
 // Mixes a place into three sheets, in three ways.
@@ -158,17 +166,20 @@ fn mixed(p: usize) -> [Request; 4] {
     ]
 }
 
-// The call was refused by a board, with this number and place; with number 0 it was not refused.
-pub fn ends<A: Drop>(answer: Result<A, Fault>, number: u8, place: usize) -> Result<(), Difference> {
-    let as_told = match answer {
-        Ok(_) => number == 0,
-        Err(fault) => fault.cause.number() == number
-            && fault.layer.letter() == "B"
-            && fault.place == place,
-    };
-    if as_told {
+// How a call ends that a board refuses for this cause, by the first sheet of the call.
+pub fn refusal(cause: Cause, sheet: usize) -> Result<(), Fault> {
+    Err(Fault::in_board(cause, sheet))
+}
+
+// The call ended as it must.
+pub fn ends<A: Drop>(
+    answer: Result<A, Fault>,
+    wanted: Result<(), Fault>,
+) -> Result<(), Difference> {
+    let given = answer.map(|_| ());
+    if given == wanted {
         Ok(())
     } else {
-        Err(Difference::new(What::Refusal, place, usize::from(number)))
+        Err(Difference::Answer { given, wanted })
     }
 }

@@ -2,146 +2,141 @@
 use crate::compare::*;
 use crate::piles::{Exam, on_piles};
 use crate::requests::*;
-use crate::tables::Tables;
 use board::Board;
 use board::perform::perform;
+use board::request::Quantifier::{Exists, ForAll};
 use board::request::Request;
+use knowledge::fault::Cause::{Place, Sheet};
+use knowledge::fault::Fault;
 use std::test::Fail;
 
 const MAX: usize = usize::MAX;
 
-// A call, and the number and place of its refusal: 0 and 0 if it is done.
-type Edge = (Request, u8, usize);
+// A call, and how it ends.
+type Edge = (Request, Result<(), Fault>);
 
 // The last sheet and the first past it, in each part of each call, and a place past the width beside it.
 fn at_sheets(width: usize) -> [Edge; 32] {
     [
-        (blank(63, true), 0, 0),
-        (blank(64, true), 15, 64),
-        (blank(MAX, false), 15, MAX),
-        (atom(63, 0), 0, 0),
-        (atom(64, 0), 15, 64),
-        (atom(MAX, 0), 15, MAX),
-        (atom(64, width), 15, 64),
-        (atom(MAX, MAX), 15, MAX),
-        (join(63, 63, 63, 7), 0, 0),
-        (join(64, 0, 1, 6), 15, 64),
-        (join(0, 64, 1, 6), 15, 0),
-        (join(1, 0, 64, 6), 15, 1),
-        (join(64, 0, 0, 16), 15, 64),
-        (join(0, 64, 0, 16), 15, 0),
-        (join(1, 0, 64, 255), 15, 1),
-        (join(MAX, 0, 0, 6), 15, MAX),
-        (flip(63), 0, 0),
-        (flip(64), 15, 64),
-        (flip(MAX), 15, MAX),
-        (for_all(63, 63, 0), 0, 0),
-        (for_all(64, 0, 0), 15, 64),
-        (for_all(1, 64, 0), 15, 1),
-        (for_all(2, 64, width), 15, 2),
-        (exists(63, 2, 0), 0, 0),
-        (exists(64, 0, width), 15, 64),
-        (exists(2, MAX, 0), 15, 2),
-        (exists(0, MAX, MAX), 15, 0),
-        (fix(63, 63, 0, true), 0, 0),
-        (fix(64, 0, 0, true), 15, 64),
-        (fix(63, 64, 0, false), 15, 63),
-        (fix(1, 64, width, false), 15, 1),
-        (fix(MAX, MAX, MAX, true), 15, MAX),
+        (blank(63, true), Ok(())),
+        (blank(64, true), refusal(Sheet, 64)),
+        (blank(MAX, false), refusal(Sheet, MAX)),
+        (atom(63, 0), Ok(())),
+        (atom(64, 0), refusal(Sheet, 64)),
+        (atom(MAX, 0), refusal(Sheet, MAX)),
+        (atom(64, width), refusal(Sheet, 64)),
+        (atom(MAX, MAX), refusal(Sheet, MAX)),
+        (join(63, 63, 63, 7), Ok(())),
+        (join(64, 0, 1, 6), refusal(Sheet, 64)),
+        (join(0, 64, 1, 6), refusal(Sheet, 0)),
+        (join(1, 0, 64, 6), refusal(Sheet, 1)),
+        (join(64, 0, 0, 16), refusal(Sheet, 64)),
+        (join(0, 64, 0, 16), refusal(Sheet, 0)),
+        (join(1, 0, 64, 255), refusal(Sheet, 1)),
+        (join(MAX, 0, 0, 6), refusal(Sheet, MAX)),
+        (flip(63), Ok(())),
+        (flip(64), refusal(Sheet, 64)),
+        (flip(MAX), refusal(Sheet, MAX)),
+        (quantify(63, 63, 0, ForAll), Ok(())),
+        (quantify(64, 0, 0, ForAll), refusal(Sheet, 64)),
+        (quantify(1, 64, 0, ForAll), refusal(Sheet, 1)),
+        (quantify(2, 64, width, ForAll), refusal(Sheet, 2)),
+        (quantify(63, 2, 0, Exists), Ok(())),
+        (quantify(64, 0, width, Exists), refusal(Sheet, 64)),
+        (quantify(2, MAX, 0, Exists), refusal(Sheet, 2)),
+        (quantify(0, MAX, MAX, Exists), refusal(Sheet, 0)),
+        (fix(63, 63, 0, true), Ok(())),
+        (fix(64, 0, 0, true), refusal(Sheet, 64)),
+        (fix(63, 64, 0, false), refusal(Sheet, 63)),
+        (fix(1, 64, width, false), refusal(Sheet, 1)),
+        (fix(MAX, MAX, MAX, true), refusal(Sheet, MAX)),
     ]
 }
 
 // The last place and the first past it, the last code and the first past it.
-fn at_places(last: usize, width: usize) -> [Edge; 18] {
+fn at_places(width: usize) -> [Edge; 18] {
+    let last = width.saturating_sub(1);
     [
-        (atom(4, last), 0, 0),
-        (atom(4, width), 16, 4),
-        (atom(63, MAX), 16, 63),
-        (join(4, 0, 1, 15), 0, 0),
-        (join(4, 0, 1, 16), 16, 4),
-        (join(0, 1, 2, 255), 16, 0),
-        (for_all(5, 0, last), 0, 0),
-        (for_all(5, 0, width), 16, 5),
-        (for_all(0, 5, MAX), 16, 0),
-        (exists(6, 1, last), 0, 0),
-        (exists(6, 1, width), 16, 6),
-        (exists(1, 6, MAX), 16, 1),
-        (fix(7, 2, last, false), 0, 0),
-        (fix(7, 2, width, false), 16, 7),
-        (fix(2, 7, MAX, false), 16, 2),
-        (fix(8, 2, last, true), 0, 0),
-        (fix(8, 2, width, true), 16, 8),
-        (fix(2, 8, MAX, true), 16, 2),
+        (atom(4, last), Ok(())),
+        (atom(4, width), refusal(Place, 4)),
+        (atom(63, MAX), refusal(Place, 63)),
+        (join(4, 0, 1, 15), Ok(())),
+        (join(4, 0, 1, 16), refusal(Place, 4)),
+        (join(0, 1, 2, 255), refusal(Place, 0)),
+        (quantify(5, 0, last, ForAll), Ok(())),
+        (quantify(5, 0, width, ForAll), refusal(Place, 5)),
+        (quantify(0, 5, MAX, ForAll), refusal(Place, 0)),
+        (quantify(6, 1, last, Exists), Ok(())),
+        (quantify(6, 1, width, Exists), refusal(Place, 6)),
+        (quantify(1, 6, MAX, Exists), refusal(Place, 1)),
+        (fix(7, 2, last, false), Ok(())),
+        (fix(7, 2, width, false), refusal(Place, 7)),
+        (fix(2, 7, MAX, false), refusal(Place, 2)),
+        (fix(8, 2, last, true), Ok(())),
+        (fix(8, 2, width, true), refusal(Place, 8)),
+        (fix(2, 8, MAX, true), refusal(Place, 2)),
     ]
 }
 
 // Each call ends as listed, and changes no sheet but the one that it writes.
-fn end_as_listed<B: Board>(
-    board: &mut B,
-    tables: &mut Tables,
-    edges: &[Edge],
-) -> Result<(), Difference> {
-    for edge in edges {
-        let (request, number, place) = *edge;
-        ends(perform(board, request), number, place)?;
-        let _ = tables.perform(request);
-        same_sheets(board, tables)?;
+fn end_as_listed<B: Board>(pair: &mut Pair<B>, edges: &[Edge]) -> Result<(), Difference> {
+    for (request, wanted) in edges {
+        ends(perform(&mut pair.board, *request), *wanted)?;
+        ends(pair.tables.perform(*request), *wanted)?;
+        pair.same_sheets()?;
     }
     Ok(())
 }
 
 // Questions about the last sheet and the first past it.
 fn questions<B: Board>(board: &B) -> Result<(), Difference> {
-    for (sheet, number) in [(63, 0), (64, 15), (MAX, 15)] {
+    for (sheet, wanted) in [
+        (63, Ok(())),
+        (64, refusal(Sheet, 64)),
+        (MAX, refusal(Sheet, MAX)),
+    ] {
         for value in [false, true] {
-            ends(board.all(sheet, value), number, sheet)?;
+            ends(board.all(sheet, value), wanted)?;
         }
-        ends(board.read(sheet, u64::MAX), number, sheet)?;
+        ends(board.read(sheet, u64::MAX), wanted)?;
     }
     Ok(())
 }
 
 // States with bits from the width up: such bits do not count.
-fn past_the_width<B: Board>(board: &B, tables: &Tables) -> Result<(), Difference> {
-    let states = tables.states() as u64;
-    for state in 0..tables.states() {
-        let says = tables.says(0, state);
+fn past_the_width<B: Board>(pair: &Pair<B>) -> Result<(), Difference> {
+    let values = pair.tables.sheet(0);
+    let states = values.len() as u64;
+    for (state, says) in values.iter().enumerate() {
         // the first such bit, and then all of them
-        let one_more = (state as u64).wrapping_add(states);
-        let all_more = (state as u64).wrapping_sub(states);
-        if board.read(0, one_more)? != says || board.read(0, all_more)? != says {
-            return Err(Difference::new(What::Read, 0, state));
+        for more in [states, states.wrapping_neg()] {
+            let state = state as u64 | more;
+            if pair.board.read(0, state)? != *says {
+                return Err(Difference::Read { sheet: 0, state });
+            }
         }
     }
     Ok(())
 }
 
 // All edges of a board.
-struct Edges {
-    last: usize,
-    width: usize,
-}
+struct Edges;
 
 impl Exam for Edges {
-    fn take<B: Board>(&self, board: &mut B, tables: &mut Tables) -> Result<(), Difference> {
-        fill(board, tables)?;
-        end_as_listed(board, tables, &at_sheets(self.width))?;
-        end_as_listed(board, tables, &at_places(self.last, self.width))?;
-        questions(board)?;
-        past_the_width(board, tables)
+    fn take<B: Board>(&self, pair: &mut Pair<B>) -> Result<(), Difference> {
+        let width = pair.tables.width();
+        pair.fill()?;
+        end_as_listed(pair, &at_sheets(width))?;
+        end_as_listed(pair, &at_places(width))?;
+        questions(&pair.board)?;
+        past_the_width(pair)
     }
 }
 
 #[test]
 fn of_all_calls(rt: HostRuntime) -> Result<(), Fail> {
-    on_piles(&Edges { last: 0, width: 1 }, rt.alloc(), 1)?;
-    on_piles(
-        &Edges {
-            last: 11,
-            width: 12,
-        },
-        rt.alloc(),
-        12,
-    )?;
+    for width in [1, 12] {
+        on_piles(&Edges, rt.alloc(), width)?;
+    }
     Ok(())
 }

@@ -1,24 +1,25 @@
 // Requests that look random, the same ones for the same seed.
-ghost use Rattle.std.specs.Prelude.{◌<◌};
-
 use crate::requests::*;
 use crate::tables::Tables;
-use board::request::Request;
+use board::request::{Quantifier, Request};
+use std::alloc::{AllocError, Global};
+use std::collections::BTreeMap;
 use std::test::Fail;
 
-// A source of numbers.
+// Requests for a board of the width, without end.
 #[derive(Drop)]
 pub struct Source {
     state: u64,
+    width: usize,
 }
 
 impl Source {
-    pub fn new(seed: u64) -> Source {
-        Source { state: seed }
+    pub fn new(seed: u64, width: usize) -> Source {
+        Source { state: seed, width }
     }
 
     // The next number, of 32 bits.
-    fn next(&mut self) -> usize {
+    fn number(&mut self) -> usize {
         self.state = self
             .state
             .wrapping_mul(6364136223846793005)
@@ -27,12 +28,12 @@ impl Source {
     }
 
     fn value(&mut self) -> bool {
-        self.next() % 2 == 1
+        self.number() % 2 == 1
     }
 
     // Mostly one of the first eight, else the last one, and now and then one past it.
     fn sheet(&mut self) -> usize {
-        match self.next() % 32 {
+        match self.number() % 32 {
             0 => 64,
             1 | 2 => 63,
             n => n % 8,
@@ -40,70 +41,91 @@ impl Source {
     }
 
     // A place of the width, or the first past it.
-    fn place(&mut self, width: usize) -> usize {
-        self.next() % width.saturating_add(1)
+    fn place(&mut self) -> usize {
+        self.number() % self.width.saturating_add(1)
     }
 
     // A code, or the first past them.
     fn code(&mut self) -> u8 {
-        (self.next() % 17) as u8
+        (self.number() % 17) as u8
     }
+}
 
-    // A request for a board of the width; atoms and joins come more often than others.
-    pub fn request(&mut self, width: usize) -> Request {
+impl Iterator for Source {
+    type Item = Request;
+
+    // Atoms and joins come more often than others.
+    fn next(&mut self) -> Option<Request> {
         let d = self.sheet();
         let a = self.sheet();
         let b = self.sheet();
-        let p = self.place(width);
+        let p = self.place();
         let c = self.code();
         let v = self.value();
-        match self.next() % 12 {
+        let request = match self.number() % 12 {
             0 => blank(d, v),
             1 | 2 | 3 => atom(d, p),
             4 => flip(d),
-            5 => for_all(d, a, p),
-            6 => exists(d, a, p),
+            5 => quantify(d, a, p, Quantifier::ForAll),
+            6 => quantify(d, a, p, Quantifier::Exists),
             7 => fix(d, a, p, v),
             _ => join(d, a, b, c),
+        };
+        Some(request)
+    }
+}
+
+// The kind of a call.
+#[derive(Clone, Copy, PartialEq, Eq, PartialOrd, Ord, Debug)]
+enum Kind {
+    Blank,
+    Atom,
+    Join,
+    Flip,
+    Quantify,
+    Fix,
+}
+
+impl From<Request> for Kind {
+    fn from(request: Request) -> Kind {
+        match request {
+            Request::Blank { .. } => Kind::Blank,
+            Request::Atom { .. } => Kind::Atom,
+            Request::Join { .. } => Kind::Join,
+            Request::Flip { .. } => Kind::Flip,
+            Request::Quantify { .. } => Kind::Quantify,
+            Request::Fix { .. } => Kind::Fix,
         }
     }
 }
 
-// The kind of a call, as a number.
-fn kind(request: Request) -> usize
-    ensures { result < 6 }
-{
-    match request {
-        Request::Blank { .. } => 0,
-        Request::Atom { .. } => 1,
-        Request::Join { .. } => 2,
-        Request::Flip { .. } => 3,
-        Request::Quantify { .. } => 4,
-        Request::Fix { .. } => 5,
-    }
+// How many calls are done, and how many are refused.
+#[derive(Clone, Copy, Default, Debug)]
+struct Count {
+    done: usize,
+    refused: usize,
 }
 
-// How many of 4,000 generated calls are done, by their kinds, and how many are refused.
-fn counts(tables: &mut Tables) -> ([usize; 6], [usize; 6]) {
-    let mut source = Source::new(1);
-    let mut done = [0usize; 6];
-    let mut refused = [0usize; 6];
-    for _ in 0..4000 {
-        let request = source.request(tables.width());
-        let kind = kind(request);
+// How 4,000 generated calls end, by their kinds.
+fn counts(heap: Global, tables: &mut Tables) -> Result<BTreeMap<Kind, Count>, AllocError> {
+    let mut counts: BTreeMap<Kind, Count> = BTreeMap::new(heap);
+    for request in Source::new(1, tables.width()).take(4000) {
+        let count = counts.entry(Kind::from(request))?.or_default();
         match tables.perform(request) {
-            Ok(()) => done[kind] = done[kind].saturating_add(1),
-            Err(_) => refused[kind] = refused[kind].saturating_add(1),
+            Ok(()) => count.done = count.done.saturating_add(1),
+            Err(_) => count.refused = count.refused.saturating_add(1),
         }
     }
-    (done, refused)
+    Ok(counts)
 }
 
 #[test]
 fn every_kind_comes(rt: HostRuntime) -> Result<(), Fail> {
-    let (done, refused) = counts(&mut Tables::new(rt.alloc(), 4)?);
-    for kind in 0..6 {
-        assert!(rt; done[kind] > 200 && refused[kind] > 5);
+    let heap = rt.alloc();
+    let counts = counts(heap, &mut Tables::new(heap, 4)?)?;
+    assert!(rt; counts.len() == 6);
+    for count in counts.values() {
+        assert!(rt; count.done > 200 && count.refused > 5);
     }
     Ok(())
 }

@@ -2,54 +2,39 @@
 use crate::compare::*;
 use crate::making::grid;
 use crate::requests::*;
-use crate::tables::Tables;
 use board::Board;
+use board::request::Quantifier::{Exists, ForAll};
 use board::request::Request;
+use grid::Grid;
+use knowledge::fault::Cause::Sheet;
 use sign::Sign;
-use std::alloc::Global;
 use std::test::Fail;
 
-// The sheet says the opposite of the tables.
-fn opposite<B: Board>(board: &B, tables: &Tables, sheet: usize) -> Result<(), Difference> {
-    for state in 0..tables.states() {
-        if board.read(sheet, state as u64)? == tables.says(sheet, state) {
-            return Err(Difference::new(What::Read, sheet, state));
-        }
-    }
-    for value in [false, true] {
-        if board.all(sheet, value)? != tables.all(sheet, !value) {
-            return Err(Difference::new(What::All, sheet, usize::from(value)));
-        }
-    }
-    Ok(())
-}
-
 // A flip is refused for the sheet alone.
-fn flips<B: Board>(board: &mut B, tables: &Tables) -> Result<(), Difference> {
+fn flips<B: Board>(pair: &mut Pair<B>) -> Result<(), Difference> {
     for sheet in 0..64 {
-        board.flip(sheet)?;
-        opposite(board, tables, sheet)?;
+        pair.board.flip(sheet)?;
+        pair.same_sheet(sheet, true)?;
     }
-    ends(board.flip(64), 15, 64)?;
-    ends(board.flip(usize::MAX), 15, usize::MAX)
+    ends(pair.board.flip(64), refusal(Sheet, 64))?;
+    ends(pair.board.flip(usize::MAX), refusal(Sheet, usize::MAX))
 }
 
-// A sign over a used board says what is below, and then the opposite where it was flipped. The board below stays as it was.
-fn over_a_board<B: Board + Drop>(heap: Global, board: B) -> Result<(), Difference> {
-    let mut below = board;
-    let mut tables = Tables::new(heap, below.width())?;
-    same_calls(&mut below, &mut tables, 300)?;
-    let mut board = Sign::over(below);
-    same_sheets(&board, &tables)?;
-    flips(&mut board, &tables)?;
-    same_sheets(&board.into_below(), &tables)
+// A sign over a used board says what is below, and then the opposite where it was flipped. The board below stays as
+// it was.
+fn over_a_board<B: Board + Drop>(mut below: Pair<B>) -> Result<(), Difference> {
+    below.same_calls(300)?;
+    let mut pair = below.map(Sign::over);
+    pair.same_sheets()?;
+    flips(&mut pair)?;
+    pair.map(Sign::into_below).same_sheets()
 }
 
 #[test]
 fn over_used_boards(rt: HostRuntime) -> Result<(), Fail> {
     let heap = rt.alloc();
-    over_a_board(heap, grid(heap, 4)?)?;
-    over_a_board(heap, Sign::over(grid(heap, 4)?))?;
+    over_a_board(grid(heap, 4)?)?;
+    over_a_board(grid(heap, 4)?.map(Sign::over))?;
     Ok(())
 }
 
@@ -61,37 +46,26 @@ fn marking() -> [(Request, bool); 10] {
         (join(1, 0, 2, 8), false),
         (join(1, 2, 0, 11), false),
         (join(1, 0, 0, 6), false),
-        (for_all(1, 0, 3), true),
-        (exists(1, 0, 3), true),
-        (for_all(1, 2, 3), false),
+        (quantify(1, 0, 3, ForAll), true),
+        (quantify(1, 0, 3, Exists), true),
+        (quantify(1, 2, 3, ForAll), false),
         (fix(1, 0, 1, true), true),
         (fix(1, 2, 1, true), false),
     ]
 }
 
 // Whether sheet 1 is marked shows in the board below: there a marked sheet says the opposite.
-fn marks<B: Board + Drop>(
-    heap: Global,
-    below: B,
-    request: Request,
-    marked: bool,
-) -> Result<(), Difference> {
-    let mut tables = Tables::new(heap, below.width())?;
-    let mut board = Sign::over(below);
-    fill(&mut board, &mut tables)?;
-    both(&mut board, &mut tables, &[flip(0), flip(1), request])?;
-    if marked {
-        opposite(&board.into_below(), &tables, 1)
-    } else {
-        same_sheet(&board.into_below(), &tables, 1)
-    }
+fn marks(below: Pair<Grid>, request: Request, marked: bool) -> Result<(), Difference> {
+    let mut pair = below.map(Sign::over);
+    pair.fill()?;
+    pair.both(&[flip(0), flip(1), request])?;
+    pair.map(Sign::into_below).same_sheet(1, marked)
 }
 
 #[test]
 fn marks_afterwards(rt: HostRuntime) -> Result<(), Fail> {
-    let heap = rt.alloc();
     for (request, marked) in marking() {
-        marks(heap, grid(heap, 4)?, request, marked)?;
+        marks(grid(rt.alloc(), 4)?, request, marked)?;
     }
     Ok(())
 }

@@ -3,41 +3,35 @@ use crate::compare::*;
 use crate::tables::Tables;
 use board::unmade::Unmade;
 use grid::Grid;
+use knowledge::fault::Cause::Table;
 use std::alloc::{AllocError, Global};
 use std::test::Fail;
 
 // Memory that was used before: no byte is 0, and none is like its neighbours.
 fn used(heap: Global, length: usize) -> Result<Vec<u8>, AllocError> {
-    let mut memory = vec![in heap; 0u8; length]?;
-    for (k, byte) in memory.iter_mut().enumerate() {
-        *byte = used_byte(k);
-    }
-    Ok(memory)
+    (0..length).map(used_byte).collect(heap)
 }
 
 fn used_byte(k: usize) -> u8 {
     (k % 251) as u8 + 3
 }
 
-// A new grid in used memory.
-pub fn grid(heap: Global, width: usize) -> Result<Grid, Difference> {
-    match Grid::new(used(heap, 32768)?, width) {
-        Ok(grid) => Ok(grid),
-        Err(unmade) => Err(Difference::from(unmade.fault)),
-    }
+// A new grid in used memory, beside new tables.
+pub fn grid(heap: Global, width: usize) -> Result<Pair<Grid>, Difference> {
+    let tables = Tables::new(heap, width)?;
+    let board = Grid::new(used(heap, 32768)?, width).map_err(|unmade| unmade.fault)?;
+    Ok(Pair { board, tables })
 }
 
 // The making is refused, and hands the memory back as it was.
 fn refused(heap: Global, length: usize, width: usize) -> Result<(), Difference> {
-    match Grid::new(used(heap, length)?, width) {
-        Ok(_) => Err(Difference::new(What::Refusal, length, width)),
-        Err(Unmade { fault, memory }) => {
-            if memory != used(heap, length)? {
-                return Err(Difference::new(What::Byte, length, width));
-            }
-            ends(Err::<(), _>(fault), 18, 0)
-        }
+    let Err(Unmade { fault, memory }) = Grid::new(used(heap, length)?, width) else {
+        return Err(Difference::Made { length, width });
+    };
+    if memory != used(heap, length)? {
+        return Err(Difference::HandedBack { length, width });
     }
+    ends(Err::<(), _>(fault), refusal(Table, 0))
 }
 
 #[test]
@@ -53,28 +47,21 @@ fn outside_the_limits(rt: HostRuntime) -> Result<(), Fail> {
     Ok(())
 }
 
-// Byte k of a grid by the rule: sheet i is the i-th block of 512 bytes, and state j is bit j mod 8 of the block's byte j div 8;
-// bits past the states are 0.
+// Byte k of a grid by the rule: sheet i is the i-th block of 512 bytes, and state j is bit j mod 8 of the block's byte
+// j div 8; bits past the states are 0.
 fn byte_by_rule(tables: &Tables, k: usize) -> u8 {
-    let mut byte = 0u8;
-    let mut weight = 1u8;
-    for bit in 0..8 {
-        let state = k % 512 * 8 + bit;
-        if state < tables.states() && tables.says(k / 512, state) {
-            byte = byte.wrapping_add(weight);
-        }
-        weight = weight.wrapping_mul(2);
-    }
-    byte
+    (0..8)
+        .filter(|bit| tables.says(k / 512, k % 512 * 8 + bit))
+        .fold(0, |byte, bit| byte | 1 << bit)
 }
 
 fn lies_by_rule(bytes: &[u8], tables: &Tables) -> Result<(), Difference> {
     if bytes.len() != 32768 {
-        return Err(Difference::new(What::Byte, 0, bytes.len()));
+        return Err(Difference::Length(bytes.len()));
     }
-    for k in 0..bytes.len() {
-        if bytes[k] != byte_by_rule(tables, k) {
-            return Err(Difference::new(What::Byte, k, usize::from(bytes[k])));
+    for (index, byte) in bytes.iter().enumerate() {
+        if *byte != byte_by_rule(tables, index) {
+            return Err(Difference::Byte { index, byte: *byte });
         }
     }
     Ok(())
@@ -84,10 +71,10 @@ fn lies_by_rule(bytes: &[u8], tables: &Tables) -> Result<(), Difference> {
 #[test]
 fn layout(rt: HostRuntime) -> Result<(), Fail> {
     for width in 1..13 {
-        let mut board = grid(rt.alloc(), width)?;
-        let mut tables = Tables::new(rt.alloc(), width)?;
-        same_calls(&mut board, &mut tables, 150)?;
-        lies_by_rule(board.bytes(), &tables)?;
+        let mut pair = grid(rt.alloc(), width)?;
+        pair.same_calls(150)?;
+        lies_by_rule(pair.board.bytes(), &pair.tables)?;
+        let Pair { board, tables } = pair;
         lies_by_rule(board.into_memory().as_slice(), &tables)?;
     }
     Ok(())

@@ -2,8 +2,8 @@
 use crate::compare::*;
 use crate::piles::{Exam, on_piles};
 use crate::requests::*;
-use crate::tables::Tables;
 use board::Board;
+use board::request::Quantifier::{Exists, ForAll};
 use board::request::Request;
 use std::test::Fail;
 
@@ -21,10 +21,10 @@ fn joins(c: u8) -> [Request; 5] {
 // The sheet written apart, and read.
 fn at_place(p: usize) -> [Request; 8] {
     [
-        for_all(3, 0, p),
-        for_all(0, 0, p),
-        exists(3, 1, p),
-        exists(1, 1, p),
+        quantify(3, 0, p, ForAll),
+        quantify(0, 0, p, ForAll),
+        quantify(3, 1, p, Exists),
+        quantify(1, 1, p, Exists),
         fix(63, 2, p, false),
         fix(2, 2, p, false),
         fix(63, 2, p, true),
@@ -33,15 +33,11 @@ fn at_place(p: usize) -> [Request; 8] {
 }
 
 // Makes each call on sheets filled anew, and looks at all of them.
-fn filled_calls<B: Board>(
-    board: &mut B,
-    tables: &mut Tables,
-    calls: &[Request],
-) -> Result<(), Difference> {
+fn filled_calls<B: Board>(pair: &mut Pair<B>, calls: &[Request]) -> Result<(), Difference> {
     for request in calls {
-        fill(board, tables)?;
-        both(board, tables, &[*request])?;
-        same_sheets(board, tables)?;
+        pair.fill()?;
+        pair.both(&[*request])?;
+        pair.same_sheets()?;
     }
     Ok(())
 }
@@ -50,12 +46,12 @@ fn filled_calls<B: Board>(
 struct Operands;
 
 impl Exam for Operands {
-    fn take<B: Board>(&self, board: &mut B, tables: &mut Tables) -> Result<(), Difference> {
+    fn take<B: Board>(&self, pair: &mut Pair<B>) -> Result<(), Difference> {
         for c in 0..16 {
-            filled_calls(board, tables, &joins(c))?;
+            filled_calls(pair, &joins(c))?;
         }
-        for p in 0..tables.width() {
-            filled_calls(board, tables, &at_place(p))?;
+        for p in 0..pair.tables.width() {
+            filled_calls(pair, &at_place(p))?;
         }
         Ok(())
     }

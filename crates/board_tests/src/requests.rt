@@ -1,4 +1,5 @@
-// Requests in few letters. As in the rules, d is the sheet written, a and b are sheets read, p is a place, v a value, c a code.
+// Requests in few letters. As in the rules, d is the sheet written, a and b are sheets read, p is a place, v a value,
+// c a code and q a quantifier.
 use board::request::{Quantifier, Request};
 
 pub fn blank(d: usize, v: bool) -> Request {
@@ -22,23 +23,12 @@ pub fn flip(d: usize) -> Request {
     Request::Flip { sheet: d }
 }
 
-// For both values of the place.
-pub fn for_all(d: usize, a: usize, p: usize) -> Request {
+pub fn quantify(d: usize, a: usize, p: usize, q: Quantifier) -> Request {
     Request::Quantify {
         sheet: d,
         from: a,
         place: p,
-        quantifier: Quantifier::ForAll,
-    }
-}
-
-// For at least one value of the place.
-pub fn exists(d: usize, a: usize, p: usize) -> Request {
-    Request::Quantify {
-        sheet: d,
-        from: a,
-        place: p,
-        quantifier: Quantifier::Exists,
+        quantifier: q,
     }
 }
 

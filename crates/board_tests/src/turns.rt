@@ -2,42 +2,41 @@
 use crate::compare::*;
 use crate::piles::{Exam, on_piles};
 use crate::requests::*;
-use crate::tables::Tables;
 use board::Board;
 use board::perform::perform_all;
 use board::request::Request;
+use knowledge::fault::Cause::{Place, Sheet};
+use knowledge::fault::Fault;
 use std::test::Fail;
 
-// Makes calls in turn, of which the first that is refused names sheet 9 and meets this number; on the tables one by one.
+// Makes calls in turn, which end like this up to the first that is refused.
 fn in_turn<B: Board>(
-    board: &mut B,
-    tables: &mut Tables,
+    pair: &mut Pair<B>,
     calls: &[Request],
-    number: u8,
+    wanted: Result<(), Fault>,
 ) -> Result<(), Difference> {
-    ends(perform_all(board, calls), number, 9)?;
-    for request in calls {
-        if tables.perform(*request).is_err() {
-            break;
-        }
-    }
-    same_sheets(board, tables)
+    ends(perform_all(&mut pair.board, calls), wanted)?;
+    ends(pair.tables.perform_all(calls), wanted)?;
+    pair.same_sheets()
 }
 
 // Lists with a refusal at no call, at the first, and further on.
 struct Turns;
 
 impl Exam for Turns {
-    fn take<B: Board>(&self, board: &mut B, tables: &mut Tables) -> Result<(), Difference> {
-        fill(board, tables)?;
-        in_turn(board, tables, &[], 0)?;
-        in_turn(board, tables, &[flip(0), join(5, 0, 1, 14)], 0)?;
-        in_turn(board, tables, &[atom(9, 4), blank(8, true), flip(64)], 16)?;
+    fn take<B: Board>(&self, pair: &mut Pair<B>) -> Result<(), Difference> {
+        pair.fill()?;
+        in_turn(pair, &[], Ok(()))?;
+        in_turn(pair, &[flip(0), join(5, 0, 1, 14)], Ok(()))?;
         in_turn(
-            board,
-            tables,
+            pair,
+            &[atom(9, 4), blank(8, true), flip(64)],
+            refusal(Place, 9),
+        )?;
+        in_turn(
+            pair,
             &[flip(5), flip(6), join(9, 0, 64, 8), blank(8, true)],
-            15,
+            refusal(Sheet, 9),
         )
     }
 }
