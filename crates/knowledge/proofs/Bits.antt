@@ -1,15 +1,14 @@
 -- The members of sets of numbers that are held as bits, and the number that holds a set.
-use Rattle.std.proofs.Common.{◌≡◌, ℕ, zero, suc, ◌+◌, ◌-◌, ◌*◌, ◌/◌, ◌%◌, ◌^◌, ◌<◌, ◌≤◌, Bool, false, ◌&&◌, ◌||◌, T, eqb, ltb, leb, ◌↔◌, sym, ap, ◌∙◌, subst, pow-suc, arith, pow_mono}
+use Rattle.std.proofs.Common.{◌≡◌, ℕ, zero, suc, ◌-◌, ◌*◌, ◌/◌, ◌%◌, ◌^◌, ◌<◌, ◌≤◌, Bool, false, ◌&&◌, ◌||◌, T, eqb, ltb, ◌↔◌, sym, ap, ◌∙◌, subst, pow-suc, arith, pow_mono}
 use mathlib.Core.Logic.Iff
 use native.Mathlib.Decide.{dec_lt}
 use native.Mathlib.Nat.{div-eq_of_lt-le}
 use lib.Bits.{bit_and, bit_or}
-use lib.Count.{count_leading_zeros}
 use Rattle.std.proofs.lemmas.Nat.{pow_pos, leading_top}
 use Rattle.std.proofs.lemmas.Nat.Bits.{bit_at-zero, bit_at_above, bit_at_and, bit_at_or, bit_at-pow_same, bit_at-pow_other}
 use Rattle.std.proofs.lemmas.Bool.Decides.{nat_tests}
 use Rattle.knowledge.specs.Sets.{FactSet, Group, has, in_facts, in_group, Within, Present, is_present}
-use Rattle.knowledge.proofs.Tests.{T-and, T-leb, T-ltb}
+use Rattle.knowledge.proofs.Tests.{T-and, T-ltb}
 
 -- a number is below its power of two
 pub below_power : (k : ℕ) → k < 2 ^ k
@@ -29,13 +28,13 @@ member_below b k = member_under b b k (below_power b)
 
 -- a set held in a number above 0 has a greatest member
 pub top_member : (b : ℕ) → 0 < b → (k : ℕ) × T (has b k) × (b < 2 ^ suc k)
-top_member b h = go (leading_top b b h (below_power b))
-  where
-    go : (j : ℕ) × (count_leading_zeros b b + suc j ≡ b) × (2 ^ j ≤ b) × (b < 2 ^ suc j) → (k : ℕ) × T (has b k) × (b < 2 ^ suc k)
-    go (k, s, low, high) =
-        let p : 2 ^ suc k ≡ 2 ^ k * 2 = pow-suc 2 k in
-        let e : b / 2 ^ k ≡ 1 = div-eq_of_lt-le {k = 1} (2 ^ k) (omega arith) (omega arith) in
-        (k, subst (λ (d : ℕ). T (eqb (d % 2) 1)) (sym e) tt, high)
+top_member b h =
+    let m = leading_top b b h (below_power b) in
+    let low : 2 ^ m.0 ≤ b = m.2 in
+    let high : b < 2 ^ suc m.0 = m.3 in
+    let p : 2 ^ suc m.0 ≡ 2 ^ m.0 * 2 = pow-suc 2 m.0 in
+    let e : b / 2 ^ m.0 ≡ 1 = div-eq_of_lt-le {k = 1} (2 ^ m.0) (omega arith) (omega arith) in
+    (m.0, subst (λ (d : ℕ). T (eqb (d % 2) 1)) (sym e) tt, high)
 
 -- all members are below n exactly if the number that holds the set is below the power of two of n
 pub members_below : (n b : ℕ) → ((k : ℕ) → T (has b k) → k < n) ↔ (b < 2 ^ n)
@@ -50,23 +49,25 @@ members_below n b = (λ h. elim (dec_lt b (2 ^ n)) [ yes l ↦ l | no l ↦ absu
         let high : b < 2 ^ suc m.0 = m.2 in
         omega arith
 
+-- a fact is in a set exactly if the bit before its number is set
+in_facts_bits : (s : FactSet) (k : ℕ) → in_facts s (suc k) ≡ has s.bits k
+in_facts_bits s k = grind (arith, nat_tests)
+
 -- the sets of facts up to n are those held in the numbers below the power of two of n
 pub within_bits : (n : ℕ) (s : FactSet) → Within n s ↔ (s.bits < 2 ^ n)
-within_bits n s = Iff.trans (
-  λ h k t. let l : suc k ≤ n = h (suc k) ((T-and (leb 1 (suc k)) (has s.bits (suc k - 1))).1 ((T-leb 1 (suc k)).1 (omega arith), shifted k t)) in l,
-  λ h p t. let q = (T-and (leb 1 p) (has s.bits (p - 1))).0 t in let l = (T-leb 1 p).0 q.0 in let m = h (p - 1) q.1 in omega arith,
-) (members_below n s.bits)
+within_bits n s = Iff.trans (λ h k t. h (suc k) (subst T (sym (in_facts_bits s k)) t), each) (members_below n s.bits)
   where
-    shifted : (k : ℕ) → T (has s.bits k) → T (has s.bits (suc k - 1))
-    shifted k t = let e : k ≡ suc k - 1 = omega arith in subst (λ (i : ℕ). T (has s.bits i)) e t
-
--- a set of numbers has a member exactly if the number that holds it is above 0
-pub some_member : (b : ℕ) → ((k : ℕ) × T (has b k)) ↔ (0 < b)
-some_member b = (λ m. let l = member_below b m.0 m.1 in omega arith, λ h. let m = top_member b h in (m.0, m.1))
+    each : ((k : ℕ) → T (has s.bits k) → k < n) → Within n s
+    each h zero t = omega arith
+    each h (suc k) t = h k (subst T (in_facts_bits s k) t)
 
 -- a party is in a group exactly if its bit is set
 pub in_group_bits : (g : Group) (i : ℕ) → in_group g i ≡ has g.bits i
 in_group_bits g i = grind (arith, nat_tests)
+
+-- a set of numbers has a member exactly if the number that holds it is above 0
+pub some_member : (b : ℕ) → ((k : ℕ) × T (has b k)) ↔ (0 < b)
+some_member b = (λ m. let l = member_below b m.0 m.1 in omega arith, λ h. let m = top_member b h in (m.0, m.1))
 
 -- the test of a group decides whether it has a member, and only members below the number of parties
 pub present_bits : (n : ℕ) (g : Group) → T (is_present n g) ↔ Present n g
