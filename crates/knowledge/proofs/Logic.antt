@@ -1,4 +1,4 @@
--- Equivalences, and what an option is not.
+-- Equivalences, what the answer of a test says, and what an option is not.
 use Rattle.std.proofs.Common.{◌≡◌, Bool, true, false, cond, T, ◌⊎◌, ◌↔◌, Some, None, Option, refl, sym, subst, ◌∙◌}
 use mathlib.Core.Logic
 use mathlib.Core.Logic.{⊎_map}
@@ -45,5 +45,5 @@ some_not_none o x p q = absurd (none-some x (sym q ∙ p))
 
 -- a test that chose nothing failed
 pub failed : {A : Type 0} (b : Bool) (x : A) (o : Option A) → cond b (Some x) o ≡ None → (b ≡ false) × (o ≡ None)
-failed true x o e = some_not_none (Some x) x refl e
+failed true x o e = absurd (none-some x (sym e))
 failed false x o e = (refl, e)

@@ -2,8 +2,8 @@
 use Rattle.std.proofs.Common.{◌≡◌, ℕ, zero, suc, ◌<◌, ◌≤◌, Bool, true, false, not as negated, ◌&&◌, ◌||◌, T, ltb, leb, ◌⊎◌, ◌↔◌, sym, refl, subst, inl, inr, le→leb, ltb→lt, lt→ltb, leb→le}
 use mathlib.Core.Bool.{beq}
 use mathlib.Core.Logic
-use lib.Dec.{T_not, not_T}
-use mir.Facts.{and_yes, yes_and}
+use Rattle.std.proofs.Math.Dec.{T_not, not_T}
+use Rattle.std.proofs.Math.Facts.{and_yes, yes_and}
 use Rattle.std.proofs.lemmas.Bool.Decides.{Decides-below_and, Decides-below_or}
 use Rattle.knowledge.specs.declared.table.Connective.{Connective}
 use Rattle.knowledge.specs.declared.table.Connective.TheVariants.{And, Or, Xor, Implies, Iff}
