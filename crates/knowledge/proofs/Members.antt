@@ -1,5 +1,5 @@
 -- The bits of a number as a set, and the set that a list of numbers makes.
-use Rattle.std.proofs.Common.{◌≡◌, ℕ, ◌+◌, ◌-◌, ◌*◌, ◌/◌, ◌%◌, ◌^◌, ◌<◌, ◌≤◌, Bool, true, false, ◌&&◌, ◌||◌, eqb, ltb, leb, List, length, get_or, take, sym, ap, ◌∙◌, arith}
+use Rattle.std.proofs.Common.{◌≡◌, ℕ, ◌+◌, ◌-◌, ◌*◌, ◌/◌, ◌%◌, ◌^◌, ◌<◌, ◌≤◌, Bool, true, ◌&&◌, ◌||◌, eqb, ltb, leb, List, length, get_or, take, sym, ap, ◌∙◌, arith, pow_mono}
 use native.Mathlib.Nat.{div-eq_of_lt}
 use native.Mathlib.Decide.{dec_lt}
 use lib.Bits.{bit_or}
@@ -8,10 +8,6 @@ use Rattle.std.proofs.lemmas.List.Folds.{list_all_more, list_any_more}
 use Rattle.std.proofs.lemmas.Bool.Decides.{nat_tests}
 use Rattle.knowledge.proofs.Bits.{has_or, has_power}
 use Rattle.knowledge.specs.Sets.{has, listed, between, all_between}
-
--- a number below 2 ^ k does not have k
-pub has_past : (s k : ℕ) → s < 2 ^ k → has s k ≡ false
-has_past s k h = ap (λ (n : ℕ). eqb (n % 2) 1) (div-eq_of_lt h)
 
 -- a number joins the bits
 member_more : (first bits v n : ℕ) → first ≤ v
@@ -44,3 +40,13 @@ none_above s k = elim (dec_lt s (2 ^ k)) [
   | yes h ↦ (let z : s / 2 ^ k ≡ 0 = div-eq_of_lt h in grind (arith, nat_tests))
   | no h ↦ (let z = le-div 1 s (2 ^ k) (pow_pos k) (omega arith) in grind (arith, nat_tests))
 ]
+
+-- a number of 64 bits is below the powers from 64 up, and nothing is left of it
+pub all_below : (s k : ℕ) → s < 2 ^ 64 → 64 ≤ k → ltb s (2 ^ k) ≡ true
+all_below s k h l = let m : 2 ^ 64 ≤ 2 ^ k = pow_mono l in grind (arith, nat_tests)
+
+pub all_shifted : (s k : ℕ) → s < 2 ^ 64 → 64 ≤ k → s / 2 ^ k ≡ 0
+all_shifted s k h l = let m : 2 ^ 64 ≤ 2 ^ k = pow_mono l in div-eq_of_lt (omega arith)
+
+-- what is left after a shift
+pub ruleset shifts = (nat_tests, none_above, all_below, all_shifted)

@@ -1,18 +1,19 @@
 -- What tests decide.
-use Rattle.std.proofs.Common.{◌≡◌, ℕ, zero, suc, ◌<◌, ◌≤◌, Bool, true, false, not as negated, ◌&&◌, ◌||◌, T, ltb, leb, ◌⊎◌, ◌↔◌, sym, refl, subst, inl, inr, arith, le→leb, ltb→lt, lt→ltb, leb→le}
+use Rattle.std.proofs.Common.{◌≡◌, ℕ, zero, suc, ◌<◌, ◌≤◌, Bool, true, false, not as negated, ◌&&◌, ◌||◌, T, ltb, leb, ◌⊎◌, ◌↔◌, sym, refl, subst, inl, inr, le→leb, ltb→lt, lt→ltb, leb→le}
 use mathlib.Core.Bool.{beq}
 use mathlib.Core.Logic
-use native.Mathlib.Decide.{dec_lt}
+use Rattle.std.proofs.Math.Dec.{T_not, not_T}
+use Rattle.std.proofs.Math.Facts.{and_yes, yes_and}
+use Rattle.std.proofs.lemmas.Bool.Decides.{Decides-below_and, Decides-below_or}
 use Rattle.knowledge.specs.declared.table.Connective.{Connective}
 use Rattle.knowledge.specs.declared.table.Connective.TheVariants.{And, Or, Xor, Implies, Iff}
 use Rattle.knowledge.specs.Sets.{between}
 use Rattle.knowledge.specs.Truth.Truth.{Joined}
-use Rattle.knowledge.proofs.Logic.{⊎-iff}
+use Rattle.knowledge.proofs.Logic.{⊎-iff, tested}
 
 -- a test of both
 pub T-and : (a b : Bool) → T (a && b) ↔ (T a × T b)
-T-and true b = (λ t. (tt, t), λ p. p.1)
-T-and false b = (λ t. absurd t, λ p. p.0)
+T-and a b = (and_yes a b, λ p. yes_and a b p.0 p.1)
 
 -- a test of either
 pub T-or : (a b : Bool) → T (a || b) ↔ (T a ⊎ T b)
@@ -33,8 +34,7 @@ T-between first last n = Logic.Iff.trans (T-and (leb first n) (leb n last)) (Log
 
 -- the opposite of a test
 pub T-negated : (a : Bool) → T (negated a) ↔ (T a → ⊥)
-T-negated true = (λ t _. t, λ f. f tt)
-T-negated false = (λ t x. x, λ f. tt)
+T-negated a = (T_not a, not_T a)
 
 -- a test that passes if the first fails or the second passes
 abbrev pub implied : Bool → Bool → Bool
@@ -80,27 +80,12 @@ abbrev pub some_below : ℕ → (ℕ → Bool) → Bool
 some_below zero f = false
 some_below (suc n) f = let rest = some_below n f in f n || rest
 
--- below n + 1 is n or below n
-pub less_or_equal : {i n : ℕ} → i < suc n → (i ≡ n) ⊎ (i < n)
-less_or_equal {i} {n} h = elim (dec_lt i n) [ yes l ↦ inr l | no l ↦ inl (omega arith) ]
-
 -- what a test at every number below n decides
 pub T-all_below : (n : ℕ) (f : ℕ → Bool) → T (all_below n f) ↔ ((i : ℕ) → i < n → T (f i))
-T-all_below zero f = (λ _ i h. absurd (omega arith), λ _. tt)
-T-all_below (suc n) f =
-    let r = T-all_below n f in (
-      λ t i h. elim (less_or_equal h) [
-        | inl e ↦ subst (λ (k : ℕ). T (f k)) (sym e) ((T-and (f n) (all_below n f)).0 t).0
-        | inr l ↦ r.0 ((T-and (f n) (all_below n f)).0 t).1 i l
-      ],
-      λ h. (T-and (f n) (all_below n f)).1 (h n (omega arith), r.1 (λ i l. h i (omega arith))),
-    )
+T-all_below n f = Logic.Iff.trans (tested (all_below n f))
+    (Decides-below_and f (λ i. T (f i)) (λ m. all_below m f) (λ i. Logic.Iff.symm (tested (f i))) refl (λ _. refl) n)
 
 -- what a test at some number below n decides
 pub T-some_below : (n : ℕ) (f : ℕ → Bool) → T (some_below n f) ↔ ((i : ℕ) × (i < n) × T (f i))
-T-some_below zero f = (λ t. absurd t, λ p. absurd (omega arith))
-T-some_below (suc n) f =
-    let r = T-some_below n f in (
-      λ t. elim ((T-or (f n) (some_below n f)).0 t) [ inl x ↦ (n, omega arith, x) | inr x ↦ let p = r.0 x in (p.0, omega arith, p.2) ],
-      λ p. (T-or (f n) (some_below n f)).1 (elim (less_or_equal p.1) [ inl e ↦ inl (subst (λ (k : ℕ). T (f k)) e p.2) | inr l ↦ inr (r.1 (p.0, l, p.2)) ]),
-    )
+T-some_below n f = Logic.Iff.trans (tested (some_below n f))
+    (Decides-below_or f (λ i. T (f i)) (λ m. some_below m f) (λ i. Logic.Iff.symm (tested (f i))) refl (λ _. refl) n)

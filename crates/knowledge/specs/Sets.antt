@@ -1,6 +1,7 @@
 -- Sets of facts and of parties.
-use Rattle.std.specs.Prelude.{◌≡◌, ℕ, ◌-◌, ◌/◌, ◌%◌, ◌^◌, ◌<◌, ◌≤◌, Bool, true, false, ◌&&◌, T, ◌↔◌, List, Ok, Err, Result, ◌==◌, nat_le, nat_lt}
+use Rattle.std.specs.Prelude.{◌≡◌, ℕ, ◌-◌, ◌^◌, ◌<◌, ◌≤◌, Bool, true, false, ◌&&◌, T, ◌↔◌, List, Ok, Err, Result, ◌==◌, nat_le, nat_lt}
 use Rattle.std.specs.List.{list_any, list_all}
+use Rattle.std.specs.Int.{bit_at}
 use Rattle.knowledge.specs.declared.fault.Fault.{Fault}
 use Rattle.knowledge.specs.declared.fault.Cause.TheVariants.{Fact, Party}
 use Rattle.knowledge.specs.declared.sets.NumberSet.{NumberSet}
@@ -8,7 +9,7 @@ use Rattle.knowledge.specs.Faults.{in_matter}
 
 -- whether number k is in a set of numbers that is held as bits
 abbrev pub has : ℕ → ℕ → Bool
-has s k = s / 2 ^ k % 2 == 1
+has s k = bit_at s k == 1
 
 -- a set of facts, which a plan can have from 1 to 40
 abbrev pub FactSet : Type 0

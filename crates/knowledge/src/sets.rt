@@ -15,11 +15,11 @@ pub struct NumberSet<const FIRST: usize, const LAST: usize> {
 // A set of facts.
 pub type FactSet = NumberSet<1, MOST_FACTS>;
 
+// The last party has a name, since the argument of a type cannot be computed.
+const LAST_PARTY: usize = MOST_PARTIES - 1;
+
 // A group of parties.
 pub type Group = NumberSet<0, LAST_PARTY>;
-
-// The number of the last party; it has a name, since the argument of a type cannot be computed.
-const LAST_PARTY: usize = MOST_PARTIES - 1;
 
 impl<const FIRST: usize, const LAST: usize> NumberSet<FIRST, LAST> {
     // The set of these numbers; refused where one is not from FIRST to LAST.
@@ -81,6 +81,7 @@ impl Group {
 }
 
 // Whether bit k is set, for every k.
+#[tactic(auto, using(crate::proofs::Members::shifts))]
 fn bit(bits: u64, k: usize) -> bool
     ensures { result ≡ has bits k }
 {
@@ -88,6 +89,7 @@ fn bit(bits: u64, k: usize) -> bool
 }
 
 // Whether only bits below k are set, for every k.
+#[tactic(auto, using(crate::proofs::Members::shifts))]
 fn below(bits: u64, k: usize) -> bool
     ensures { result ≡ nat_lt bits (2 ^ k) }
 {

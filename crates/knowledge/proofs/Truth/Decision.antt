@@ -1,5 +1,5 @@
 -- A test of truth, by the worlds that a matter can have.
-use Rattle.std.proofs.Common.{◌≡◌, ℕ, zero, suc, ◌-◌, ◌^◌, ◌<◌, Bool, true, false, not as negated, ◌&&◌, T, leb, ◌↔◌, List, [], ◌∷◌, sym, ap, subst, inl, inr, arith}
+use Rattle.std.proofs.Common.{◌≡◌, ℕ, zero, suc, ◌-◌, ◌^◌, ◌<◌, Bool, true, false, not as negated, ◌&&◌, T, leb, ◌↔◌, List, [], ◌∷◌, sym, ap, subst, inl, inr, arith, eq-or-lt_of_le, le_of_suc-le-suc}
 use mathlib.Core.Bool.{beq}
 use mathlib.Core.Logic.Iff
 use mathlib.Mathlib.Logic.Basic.Iff as LogicIff
@@ -11,7 +11,7 @@ use Rattle.knowledge.specs.Truth.Truth.{World, start, copy, told, facts_of, Mode
 use Rattle.knowledge.specs.Truth.Situations.{Setting, sight, Agree, blank, KeepsLaw, Lawful, starting, Notice, posted, told_to, Situation, Holds, after, after_all, opened}
 use Rattle.knowledge.specs.Truth.Verdicts.{Verdict, verdicts, VerdictsTrue}
 use Rattle.knowledge.proofs.Logic.{joined_iff}
-use Rattle.knowledge.proofs.Tests.{T-and, T-negated, implied, T-implied, T-beq, joined_test, T-joined, all_below, T-all_below, less_or_equal}
+use Rattle.knowledge.proofs.Tests.{T-and, T-negated, implied, T-implied, T-beq, joined_test, T-joined, all_below, T-all_below}
 use Rattle.knowledge.proofs.Bits.{member_below, within_bits}
 use Rattle.knowledge.proofs.Truth.Listing.{Listed, sift, listed_sift, start_no_copy}
 use Rattle.knowledge.proofs.Truth.Finite.{Finite, Shows, keep, duplicate, DecidesEach, keep_shows, duplicate_shows, known?, known_decided, shared?, shared_decided}
@@ -61,7 +61,7 @@ listed_starts zero f = (λ h. absurd h, λ h. absurd (omega arith))
 listed_starts (suc n) f =
     let r = listed_starts n f in (
       elim [ inl e ↦ (let k : f.bits ≡ n = ap (λ (w : World). (facts_of w).bits) e in omega arith) | inr l ↦ (let k = r.0 l in omega arith) ],
-      λ h. elim (less_or_equal h) [ inl e ↦ inl (ap (λ (b : ℕ). start (record { bits = b })) e) | inr l ↦ inr (r.1 l) ],
+      λ h. elim (eq-or-lt_of_le (le_of_suc-le-suc h)) [ inl e ↦ inl (ap (λ (b : ℕ). start (record { bits = b })) e) | inr l ↦ inr (r.1 l) ],
     )
 
 -- no copy is among them
