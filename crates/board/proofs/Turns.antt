@@ -1,38 +1,55 @@
--- Requests that are made in turn, seen from the middle of the list.
-use Rattle.std.proofs.Common.{◌≡◌, ℕ, zero, suc, ◌+◌, ◌<◌, List, [], ◌∷◌, length, get_or, drop, Ok, Err, Result, sym, refl, ap, ◌∙◌, subst, inl, inr, arith}
+-- Requests that are made in turn.
+use Rattle.std.proofs.Common.{◌≡◌, ℕ, ◌+◌, ◌<◌, ◌≤◌, List, [], ◌∷◌, ◌++◌, length, get_or, take, drop, Ok, Err, Result, refl, ap, subst, inl, inr, add-one}
+use Rattle.std.proofs.Math.Seq.{drop-cons}
+use Rattle.std.proofs.lemmas.List.{take_more, take_all, take-append-drop}
 use Rattle.knowledge.specs.declared.fault.Fault.{Fault}
 use Rattle.board.specs.declared.request.Request.{Request}
 use Rattle.board.specs.Requests.{Meaning}
-use Rattle.board.specs.Calls.{Rule, Written}
-use Rattle.board.specs.Turns.{Performed, after_all, AllWritten, Led, TookTurn}
+use Rattle.board.specs.Calls.{Rule, Done, Refused}
+use Rattle.board.specs.Turns.{Performed, after_all}
 
--- the requests from number k on are number k and those after it
-from_here : (qs : List Request) (k : ℕ) (q : Request) → k < length qs → drop k qs ≡ (get_or qs k q ∷ drop (k + 1) qs)
-from_here [] k q lt = absurd (omega arith)
-from_here (q ∷ qs) zero other lt = refl
-from_here (q ∷ qs) (suc k) other lt =
-    let next : suc (k + 1) ≡ suc k + 1 = omega arith in
-    subst (λ (n : ℕ). drop k qs ≡ (get_or qs k other ∷ drop n (q ∷ qs))) next (from_here qs k other (omega arith))
+module _ {B : Type 0} (meaning : B → Meaning) (fills : B → Rule) where
+  -- requests that are made once others were all done
+  performed-append : (b : B) (qs rs : List Request) (c b' : B) (r : Result (Unit {0}) Fault)
+      → Performed meaning fills b qs c (Ok tt) → Performed meaning fills c rs b' r
+      → Performed meaning fills b (qs ++ rs) b' r
+  performed-append b [] rs c b' r same rest = rw (← same) rest
+  performed-append b (q ∷ qs) rs c b' r (d, inl (done, first)) rest =
+      (d, inl (done, performed-append d qs rs c b' r first rest))
+  performed-append b (q ∷ qs) rs c b' r (d, inr (e, refused, last, err)) rest = cc
 
--- the call in its turn
-pub turn : {B : Type 0} (meaning : B → Meaning) (fills : B → Rule) (c : B) (qs : List Request) (k : ℕ) (c' : B) (q : Request) (r : Result (Unit {0}) Fault) → k < length qs
-    → Written meaning fills c (get_or qs k q) c' r → TookTurn meaning fills c qs k c' r
-turn meaning fills c qs k c' q (Ok x) inside done =
-    λ b led b' r h. led b' r (subst (λ (rs : List Request). Performed meaning fills c rs b' r) (sym (from_here qs k q inside)) (c', inl (done, h)))
-turn meaning fills c qs k c' q (Err e) inside refused =
-    λ b led. led c' (Err e) (subst (λ (rs : List Request). Performed meaning fills c rs c' (Err e)) (sym (from_here qs k q inside)) (c', inr (e, refused, refl, refl)))
+  -- one more request is done
+  pub one_done : (b : B) (qs : List Request) (k : ℕ) (c c' : B) (q : Request) → k < length qs
+      → Performed meaning fills b (take k qs) c (Ok tt)
+      → Done (meaning c) (fills c) (get_or qs k q) (meaning c')
+      → Performed meaning fills b (take (k + 1) qs) c' (Ok tt)
+  one_done b qs k c c' q inside first done =
+      rw (take_more qs k q inside)
+      (performed-append b (take k qs) (get_or qs k q ∷ []) c c' (Ok tt) first (c', inl (done, refl)))
 
--- when every request had its turn, all are done
-pub all_done : {B : Type 0} (meaning : B → Meaning) (fills : B → Rule) (b : B) (qs : List Request) (c : B) (k : ℕ) → k ≡ length qs → Led meaning fills b qs c k → Performed meaning fills b qs c (Ok tt)
-all_done meaning fills b qs c k whole led = led c (Ok tt) (subst (λ (rs : List Request). Performed meaning fills c rs c (Ok tt)) (sym (ap (λ (n : ℕ). drop n qs) whole ∙ none_left qs)) refl)
-  where
-    none_left : (qs : List Request) → drop (length qs) qs ≡ []
-    none_left [] = refl
-    none_left (q ∷ qs) = none_left qs
+  -- the next request is refused
+  pub one_refused : (b : B) (qs : List Request) (k : ℕ) (c c' : B) (q : Request) (e : Fault) → k < length qs
+      → Performed meaning fills b (take k qs) c (Ok tt)
+      → Refused (meaning c) (fills c) (get_or qs k q) (meaning c') (fills c') e
+      → Performed meaning fills b qs c' (Err e)
+  one_refused b qs k c c' q e inside first refused =
+      let rest = get_or qs k q ∷ drop (k + 1) qs in
+      let parts : take k qs ++ rest ≡ qs = rw (add-one, ← drop-cons qs k q inside) (take-append-drop k qs) in
+      subst (λ (rs : List Request). Performed meaning fills b rs c' (Err e)) parts
+      (performed-append b (take k qs) rest c c' (Err e) first (c', inr (e, refused, refl, refl)))
 
--- requests that were all done leave the meaning after all of them
-pub all_written : {B : Type 0} (meaning : B → Meaning) (fills : B → Rule) (b : B) (qs : List Request) (b' : B) (r : Result (Unit {0}) Fault) → Performed meaning fills b qs b' r → AllWritten (meaning b) qs (meaning b') r
-all_written meaning fills b [] b' (Ok _) same = ap meaning same
-all_written meaning fills b (q ∷ qs) b' (Ok x) (c, inl (done, rest)) = all_written meaning fills c qs b' (Ok x) rest ∙ ap (λ (m : Meaning). after_all m qs) done.wrote
-all_written meaning fills b (q ∷ qs) b' (Ok x) (c, inr (e, refused, last, err)) = let z : ◌≡◌ {A = ℕ} 0 1 = cc in absurd (omega arith)
-all_written meaning fills b qs b' (Err e) h = tt
+  -- requests that were all done leave the meaning after all of them
+  all_written : (b : B) (qs : List Request) (c : B)
+      → Performed meaning fills b qs c (Ok tt) → meaning c ≡ after_all (meaning b) qs
+  all_written b [] c same = ap meaning same
+  all_written b (q ∷ qs) c (d, inl (done, rest)) = rw (← done.wrote) (all_written d qs c rest)
+  all_written b (q ∷ qs) c (d, inr (e, refused, last, err)) = cc
+
+  -- no request is left
+  pub all_done : (b : B) (qs : List Request) (k : ℕ) (c : B) → length qs ≤ k
+      → Performed meaning fills b (take k qs) c (Ok tt) → meaning c ≡ after_all (meaning b) qs
+  all_done b qs k c past first =
+      all_written b qs c (subst (λ (rs : List Request). Performed meaning fills b rs c (Ok tt)) (take_all k qs past) first)
+
+-- the steps of a run of requests, and its end
+pub ruleset in_turn = (one_done, one_refused, all_done)

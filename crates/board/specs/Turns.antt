@@ -1,5 +1,5 @@
 -- How several calls end that are made in turn.
-use Rattle.std.specs.Prelude.{◌≡◌, ℕ, ◌+◌, ◌⊎◌, List, [], ◌∷◌, drop, Ok, Err, Result}
+use Rattle.std.specs.Prelude.{◌≡◌, ◌⊎◌, List, [], ◌∷◌, Ok, Err, Result}
 use Rattle.knowledge.specs.declared.fault.Fault.{Fault}
 use Rattle.board.specs.declared.request.Request.{Request}
 use Rattle.board.specs.Requests.{Meaning, after}
@@ -22,12 +22,3 @@ after_all m (q ∷ qs) = after_all (after m q) qs
 abbrev pub AllWritten : Meaning → List Request → Meaning → Result (Unit {0}) Fault → Type 0
 AllWritten m qs m' (Ok _) = m' ≡ after_all m qs
 AllWritten m qs m' (Err e) = Unit {0}
-
--- However the requests from number k on end at board c, so do all of them at board b: those before k were done, and led from b to c.
-abbrev pub Led : {B : Type 0} → (B → Meaning) → (B → Rule) → B → List Request → B → ℕ → Type 0
-Led {B} meaning fills b qs c k = (b' : B) (r : Result (Unit {0}) Fault) → Performed meaning fills c (drop k qs) b' r → Performed meaning fills b qs b' r
-
--- how request number k of a list ends, in its turn
-abbrev pub TookTurn : {B : Type 0} → (B → Meaning) → (B → Rule) → B → List Request → ℕ → B → Result (Unit {0}) Fault → Type 0
-TookTurn {B} meaning fills c qs k c' (Ok _) = (b : B) → Led meaning fills b qs c k → Led meaning fills b qs c' (k + 1)
-TookTurn {B} meaning fills c qs k c' (Err e) = (b : B) → Led meaning fills b qs c k → Performed meaning fills b qs c' (Err e)

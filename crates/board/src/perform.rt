@@ -1,7 +1,6 @@
 // Calls as values, made over any board.
-ghost use Rattle.std.specs.Prelude.{◌≡◌, ◌<◌, length};
 ghost use Rattle.board.specs.Calls.{Written};
-ghost use Rattle.board.specs.Turns.{Performed, AllWritten, TookTurn};
+ghost use Rattle.board.specs.Turns.{Performed, AllWritten};
 
 use crate::Board;
 use crate::request::Request;
@@ -37,20 +36,13 @@ pub fn perform<B: Board>(board: &mut B, request: Request) -> Result<(), Fault>
 }
 
 // Makes the calls of a list in turn, up to the first that is refused.
+#[tactic(auto, using(crate::proofs::Turns::in_turn))]
 pub fn perform_all<B: Board>(board: &mut B, requests: &[Request]) -> Result<(), Fault>
     ensures turns { Performed B.meaning B.fills board.old requests.now board.new result }
     ensures all { AllWritten (B.meaning board.old) requests.now (B.meaning board.new) result }
 {
-    for turn in 0..requests.len() {
-        take_turn(board, requests, turn)?;
+    for request in requests {
+        perform(board, *request)?;
     }
     Ok(())
-}
-
-// Makes one call of a list.
-fn take_turn<B: Board>(board: &mut B, requests: &[Request], turn: usize) -> Result<(), Fault>
-    requires { turn < length requests.now }
-    ensures { TookTurn B.meaning B.fills board.old requests.now turn board.new result }
-{
-    perform(board, requests[turn])
 }

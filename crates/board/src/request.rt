@@ -73,16 +73,16 @@ impl Request {
     }
 
     // The sheet written, which is the first that the call names.
-    fn written(self) -> usize
+    pub fn written(self) -> usize
         ensures { result ≡ written self }
     {
         match self {
-            Request::Blank { sheet, .. } => sheet,
-            Request::Atom { sheet, .. } => sheet,
-            Request::Join { sheet, .. } => sheet,
-            Request::Flip { sheet } => sheet,
-            Request::Quantify { sheet, .. } => sheet,
-            Request::Fix { sheet, .. } => sheet,
+            Request::Blank { sheet, .. }
+            | Request::Atom { sheet, .. }
+            | Request::Join { sheet, .. }
+            | Request::Flip { sheet }
+            | Request::Quantify { sheet, .. }
+            | Request::Fix { sheet, .. } => sheet,
         }
     }
 
@@ -91,17 +91,17 @@ impl Request {
         ensures { (result ≡ true) ↔ SheetsKnown self }
     {
         match self {
-            Request::Blank { sheet, .. } => sheet < SHEETS,
-            Request::Atom { sheet, .. } => sheet < SHEETS,
+            Request::Blank { sheet, .. } | Request::Atom { sheet, .. } | Request::Flip { sheet } =>
+                sheet < SHEETS,
             Request::Join {
                 sheet,
                 left,
                 right,
                 ..
             } => sheet < SHEETS && left < SHEETS && right < SHEETS,
-            Request::Flip { sheet } => sheet < SHEETS,
-            Request::Quantify { sheet, from, .. } => sheet < SHEETS && from < SHEETS,
-            Request::Fix { sheet, from, .. } => sheet < SHEETS && from < SHEETS,
+            Request::Quantify { sheet, from, .. } | Request::Fix { sheet, from, .. } => {
+                sheet < SHEETS && from < SHEETS
+            }
         }
     }
 
@@ -110,12 +110,11 @@ impl Request {
         ensures { (result ≡ true) ↔ PlaceKnown width self }
     {
         match self {
-            Request::Blank { .. } => true,
-            Request::Atom { place, .. } => place < width,
+            Request::Blank { .. } | Request::Flip { .. } => true,
             Request::Join { code, .. } => code < CODES,
-            Request::Flip { .. } => true,
-            Request::Quantify { place, .. } => place < width,
-            Request::Fix { place, .. } => place < width,
+            Request::Atom { place, .. }
+            | Request::Quantify { place, .. }
+            | Request::Fix { place, .. } => place < width,
         }
     }
 }

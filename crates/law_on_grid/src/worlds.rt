@@ -12,7 +12,6 @@ pub fn law_calls() -> [Request; 3]
     ensures calls { result ≡ law_calls }
     ensures worlds { WritesLaw law_calls }
 {
-    calls_in_words();
     [
         Request::Atom { sheet: 1, place: 0 },
         Request::Atom { sheet: 2, place: 1 },
@@ -24,8 +23,3 @@ pub fn law_calls() -> [Request; 3]
         },
     ]
 }
-
-// What the calls come to, on every board.
-fn calls_in_words()
-    ensures { WritesLaw law_calls }
-{}

@@ -1,5 +1,5 @@
 -- What a sign over a board says, by its marks and what the board below says, and what it hands down.
-use Rattle.std.specs.Prelude.{◌≡◌, ℕ, ◌+◌, ◌<◌, Bool, true, false, cond, not, List, Some, None, Option, MatchOption, nat_lt, slice_index_or}
+use Rattle.std.specs.Prelude.{◌≡◌, ℕ, ◌+◌, ◌<◌, Bool, true, false, cond, not, Some, None, Option, IsSomeAnd, nat_lt, slice_index_or, slice_set}
 use Rattle.board.specs.declared.request.Quantifier.{Quantifier}
 use Rattle.board.specs.declared.request.Quantifier.TheVariants.{ForAll, Exists}
 use Rattle.board.specs.declared.request.Request.{Request}
@@ -7,10 +7,15 @@ use Rattle.board.specs.declared.request.Request.TheVariants.{Blank, Atom, Join, 
 use Rattle.board.specs.Sheets.{Sheets}
 use Rattle.board.specs.Requests.{joined, Meaning}
 use Rattle.board.specs.Calls.{Rule}
+use Rattle.sign.specs.declared.marks.Marks.{Marks}
 
 -- the mark of a sheet; a sheet above 63 has none
-abbrev pub mark_at : List Bool → ℕ → Bool
-mark_at ms i = slice_index_or ms i false
+abbrev pub mark_at : Marks → ℕ → Bool
+mark_at ms i = slice_index_or ms.by_sheet i false
+
+-- the marks with that of sheet d replaced
+abbrev pub with_mark : Marks → ℕ → Bool → Marks
+with_mark ms d k = record { by_sheet = slice_set ms.by_sheet d k }
 
 -- a value under a mark: marked, it is the opposite of the one below
 abbrev pub signed : Bool → Bool → Bool
@@ -18,11 +23,11 @@ signed true x = not x
 signed false x = x
 
 -- what the sheets say under their marks
-abbrev pub marked : List Bool → Sheets → Sheets
+abbrev pub marked : Marks → Sheets → Sheets
 marked ms f = λ i s. signed (mark_at ms i) (f i s)
 
 -- what the sign says over what the board below says; the width and the sure places come from below
-abbrev pub meaning_above : List Bool → Meaning → Meaning
+abbrev pub meaning_above : Marks → Meaning → Meaning
 meaning_above ms m = record { width = m.width; sure = m.sure; sheets = marked ms m.sheets }
 
 -- the quantifier under a mark: "for both values" and "for at least one" change places
@@ -45,7 +50,7 @@ RecodedJoins = (x y : Bool) (c : ℕ) → c < 16 → (recoded x y c < 16)
     × ((a b : Bool) → joined (recoded x y c) a b ≡ joined c (signed x a) (signed y b))
 
 -- the request that is handed down; a flip is not
-abbrev pub handed : List Bool → Request → Option Request
+abbrev pub handed : Marks → Request → Option Request
 handed ms (Blank d v) = Some (Blank d v)
 handed ms (Atom d p) = Some (Atom d p)
 handed ms (Join d a b c) = Some (Join d a b (recoded (mark_at ms a) (mark_at ms b) c))
@@ -54,7 +59,7 @@ handed ms (Quantify d a p k) = Some (Quantify d a p (exchanged (mark_at ms a) k)
 handed ms (Fix d a p v) = Some (Fix d a p v)
 
 -- the mark that the sheet written gets
-abbrev pub new_mark : List Bool → Request → Bool
+abbrev pub new_mark : Marks → Request → Bool
 new_mark ms (Blank d v) = false
 new_mark ms (Atom d p) = false
 new_mark ms (Join d a b c) = false
@@ -63,5 +68,5 @@ new_mark ms (Quantify d a p k) = mark_at ms a
 new_mark ms (Fix d a p v) = mark_at ms a
 
 -- the sign is full exactly if the board below is for the request that is handed down
-abbrev pub fills_above : List Bool → Rule → Rule
-fills_above ms below q = MatchOption (handed ms q) ⊥ below
+abbrev pub fills_above : Marks → Rule → Rule
+fills_above ms below q = IsSomeAnd (handed ms q) below

@@ -6,22 +6,21 @@ mod marks;
 ghost use Rattle.std.specs.Prelude.{◌≡◌, ℕ, false, Some};
 ghost use Rattle.board.specs.declared.request.Request.{Request};
 ghost use Rattle.board.specs.declared.request.Request.TheVariants.{Blank, Atom, Join, Flip, Quantify, Fix};
-ghost use Rattle.board.specs.Requests.{written};
 ghost use Rattle.sign.specs.Marks.{mark_at, meaning_above, handed, new_mark};
 ghost use Rattle.sign.specs.Signs.{meaning_of, fills_of, Layered};
 ghost use Rattle.sign.specs.Layer.{sound_above};
 
 use board::Board;
 use board::perform::perform;
-use board::request::{Quantifier, Request, SHEETS};
-use knowledge::fault::{Cause, Fault};
-use marks::{exchange, mark_of, recode, set_mark, under, unmarked};
+use board::request::{Quantifier, Request, check_sheet};
+use knowledge::fault::Fault;
+use marks::{Marks, exchange, recode, under};
 
 // The board below, and which sheets are marked.
 #[derive(Drop)]
 pub struct Sign<B> {
     below: B,
-    marks: [bool; 64],
+    marks: Marks,
 }
 
 impl<B: Board> Sign<B> {
@@ -32,7 +31,7 @@ impl<B: Board> Sign<B> {
     {
         Sign {
             below,
-            marks: unmarked(),
+            marks: Marks::none(),
         }
     }
 
@@ -47,20 +46,20 @@ impl<B: Board> Sign<B> {
 
     // Makes a request below and, once it is done, gives the sheet written its mark. So ends every request that is to be handed
     // down as this one with this mark.
-    fn hand_down(&mut self, request: Request, sheet: usize, mark: bool) -> Result<(), Fault>
-        requires { written request ≡ sheet }
+    fn hand_down(&mut self, request: Request, mark: bool) -> Result<(), Fault>
         ensures { (q : Request)
             → handed self.old.marks q ≡ Some request
             → new_mark self.old.marks q ≡ mark
             → Layered B.meaning B.fills self.old q self.new result }
     {
         perform(&mut self.below, request)?;
-        set_mark(&mut self.marks, sheet, mark);
+        self.marks.set(request.written(), mark);
         Ok(())
     }
 }
 
 // Each call hands one request down, but for flip, which only turns the mark.
+// What a sign promises beyond a board stands beside each call: a trait's member for it would burden every board.
 impl<B: Board> Board for Sign<B> {
     ghost meaning = { meaning_of B.Board.meaning };
 
@@ -71,38 +70,34 @@ impl<B: Board> Board for Sign<B> {
     fn blank(&mut self, sheet: usize, value: bool) -> Result<(), Fault>
         ensures { Layered B.meaning B.fills self.old (Blank sheet value) self.new result }
     {
-        self.hand_down(Request::Blank { sheet, value }, sheet, false)
+        self.hand_down(Request::Blank { sheet, value }, false)
     }
 
     fn atom(&mut self, sheet: usize, place: usize) -> Result<(), Fault>
         ensures { Layered B.meaning B.fills self.old (Atom sheet place) self.new result }
     {
-        self.hand_down(Request::Atom { sheet, place }, sheet, false)
+        self.hand_down(Request::Atom { sheet, place }, false)
     }
 
     fn join(&mut self, sheet: usize, left: usize, right: usize, code: u8) -> Result<(), Fault>
         ensures { Layered B.meaning B.fills self.old (Join sheet left right code) self.new result }
     {
-        let left_mark = mark_of(&self.marks, left);
-        let right_mark = mark_of(&self.marks, right);
-        let code = recode(left_mark, right_mark, code);
+        let code = recode(self.marks.get(left), self.marks.get(right), code);
         let request = Request::Join {
             sheet,
             left,
             right,
             code,
         };
-        self.hand_down(request, sheet, false)
+        self.hand_down(request, false)
     }
 
     fn flip(&mut self, sheet: usize) -> Result<(), Fault>
         ensures { Layered B.meaning B.fills self.old (Flip sheet) self.new result }
     {
-        if sheet >= SHEETS {
-            return Err(Fault::in_board(Cause::Sheet, sheet));
-        }
-        let mark = mark_of(&self.marks, sheet);
-        set_mark(&mut self.marks, sheet, !mark);
+        check_sheet(sheet)?;
+        let mark = self.marks.get(sheet);
+        self.marks.set(sheet, !mark);
         Ok(())
     }
 
@@ -115,7 +110,7 @@ impl<B: Board> Board for Sign<B> {
     ) -> Result<(), Fault>
         ensures { Layered B.meaning B.fills self.old (Quantify sheet from place quantifier) self.new result }
     {
-        let from_mark = mark_of(&self.marks, from);
+        let from_mark = self.marks.get(from);
         let quantifier = exchange(from_mark, quantifier);
         let request = Request::Quantify {
             sheet,
@@ -123,30 +118,29 @@ impl<B: Board> Board for Sign<B> {
             place,
             quantifier,
         };
-        self.hand_down(request, sheet, from_mark)
+        self.hand_down(request, from_mark)
     }
 
     fn fix(&mut self, sheet: usize, from: usize, place: usize, value: bool) -> Result<(), Fault>
         ensures { Layered B.meaning B.fills self.old (Fix sheet from place value) self.new result }
     {
-        let mark = mark_of(&self.marks, from);
+        let mark = self.marks.get(from);
         let request = Request::Fix {
             sheet,
             from,
             place,
             value,
         };
-        self.hand_down(request, sheet, mark)
+        self.hand_down(request, mark)
     }
 
     fn read(&self, sheet: usize, state: u64) -> Result<bool, Fault> {
         let value = self.below.read(sheet, state)?;
-        Ok(under(mark_of(&self.marks, sheet), value))
+        Ok(under(self.marks.get(sheet), value))
     }
 
     fn all(&self, sheet: usize, value: bool) -> Result<bool, Fault> {
-        let value = under(mark_of(&self.marks, sheet), value);
-        self.below.all(sheet, value)
+        self.below.all(sheet, under(self.marks.get(sheet), value))
     }
 
     fn width(&self) -> usize {

@@ -1,58 +1,68 @@
 // The marks of 64 sheets, and what is asked of the sheets below in place of those under the marks.
-ghost use Rattle.std.specs.Prelude.{◌≡◌, ℕ, ◌<◌, false, not, slice_set};
+ghost use Rattle.std.specs.Prelude.{◌≡◌, ℕ, ◌<◌, false, not};
 ghost use Rattle.board.specs.declared.request.Request.TheVariants.{Flip};
 ghost use Rattle.board.specs.Requests.{Meaning, after};
-ghost use Rattle.sign.specs.Marks.{mark_at, signed, meaning_above, exchanged, recoded, RecodedJoins};
+ghost use Rattle.sign.specs.Marks.{mark_at, with_mark, signed, meaning_above, exchanged, recoded, RecodedJoins};
 
 use board::request::{CODES, Quantifier, SHEETS};
 
-// No sheet marked: all say what they say below.
-pub(crate) fn unmarked() -> [bool; 64]
-    ensures none { (i : ℕ) → mark_at result i ≡ false }
-    ensures same { (m : Meaning) → meaning_above result m ≡ m }
-{
-    [false; 64]
+// Which of the 64 sheets are marked.
+#[derive(Clone, Copy)]
+pub(crate) struct Marks {
+    by_sheet: [bool; SHEETS],
 }
 
-// The mark of a sheet; a sheet above 63 has none.
-pub(crate) fn mark_of(marks: &[bool; 64], sheet: usize) -> bool
-    ensures { result ≡ mark_at marks.now sheet }
-{
-    sheet < SHEETS && marks[sheet]
-}
+impl Marks {
+    // No sheet marked: all say what they say below.
+    pub(crate) fn none() -> Marks
+        ensures none { (i : ℕ) → mark_at result i ≡ false }
+        ensures same { (m : Meaning) → meaning_above result m ≡ m }
+    {
+        Marks {
+            by_sheet: [false; SHEETS],
+        }
+    }
 
-// Gives a sheet a mark; the opposite of the one that it had flips the sheet.
-pub(crate) fn set_mark(marks: &mut [bool; 64], sheet: usize, mark: bool)
-    requires { sheet < 64 }
-    ensures given { marks.new ≡ slice_set marks.old sheet mark }
-    ensures flips { mark ≡ not (mark_at marks.old sheet)
-        → (m : Meaning) → meaning_above marks.new m ≡ after (meaning_above marks.old m) (Flip sheet) }
-{
-    marks[sheet] = mark;
+    // The mark of a sheet; a sheet above 63 has none.
+    pub(crate) fn get(&self, sheet: usize) -> bool
+        ensures { result ≡ mark_at self.now sheet }
+    {
+        self.by_sheet.get(sheet).copied().unwrap_or(false)
+    }
+
+    // Gives a sheet a mark; the opposite of the one that it had flips the sheet.
+    // Callers have found the sheet to be one of the 64, so a test here would be a second one.
+    pub(crate) fn set(&mut self, sheet: usize, mark: bool)
+        requires { sheet < SHEETS }
+        ensures given { self.new ≡ with_mark self.old sheet mark }
+        ensures flips { mark ≡ not (mark_at self.old sheet)
+            → (m : Meaning) → meaning_above self.new m ≡ after (meaning_above self.old m) (Flip sheet) }
+    {
+        self.by_sheet[sheet] = mark;
+    }
 }
 
 // A value under a mark.
 pub(crate) fn under(mark: bool, value: bool) -> bool
     ensures { result ≡ signed mark value }
 {
-    if mark { !value } else { value }
+    value != mark
 }
 
 // The quantifier that is asked for below: under a mark the two change places.
 pub(crate) fn exchange(mark: bool, quantifier: Quantifier) -> Quantifier
     ensures { result ≡ exchanged mark quantifier }
 {
-    if !mark {
-        return quantifier;
-    }
-    match quantifier {
-        Quantifier::ForAll => Quantifier::Exists,
-        Quantifier::Exists => Quantifier::ForAll,
+    match (mark, quantifier) {
+        (false, _) => quantifier,
+        (true, Quantifier::ForAll) => Quantifier::Exists,
+        (true, Quantifier::Exists) => Quantifier::ForAll,
     }
 }
 
 // The code that joins two sheets below as the code joins them under their marks; one that no join has is left for the board
 // below to refuse.
+#[tactic(auto, using(crate::proofs::Exchanges::recodes))]
 pub(crate) fn recode(left_mark: bool, right_mark: bool, code: u8) -> u8
     ensures is { result ≡ recoded left_mark right_mark code }
     ensures joins { RecodedJoins }
