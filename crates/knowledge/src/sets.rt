@@ -1,5 +1,5 @@
 // Sets of facts and of parties.
-ghost use Rattle.std.specs.Prelude.{◌≡◌, ◌+◌, ◌-◌, ◌^◌, ◌<◌, ◌≤◌, ◌&&◌, nat_le, nat_lt};
+ghost use Rattle.std.specs.Prelude.{◌≡◌, ◌+◌, ◌^◌, ◌<◌, nat_lt};
 ghost use Rattle.knowledge.specs.Faults.{in_matter};
 ghost use Rattle.knowledge.specs.Sets.{has, contains, is_within, is_present, GroupInWords, Collected, FactsCollected, MembersCollected};
 
