@@ -1,6 +1,6 @@
 -- The law of the sample matter, on a sheet of a board.
 use Rattle.std.specs.Prelude.{◌≡◌, true, ◌↔◌, List, [], ◌∷◌}
-use Rattle.knowledge.specs.declared.sets.FactSet.{FactSet}
+use Rattle.knowledge.specs.Sets.{FactSet}
 use Rattle.knowledge.specs.Truth.Situations.{KeepsLaw}
 use Rattle.knowledge.specs.Truth.Verdicts.{either_of_two}
 use Rattle.board.specs.declared.request.Request.{Request}
