@@ -1,18 +1,12 @@
 -- Sheets under marks.
-use Rattle.std.proofs.Common.{◌≡◌, ℕ, ◌<◌, Bool, true, false, not, length, get_or, replicate, refl, ap, arith}
+use Rattle.std.proofs.Common.{◌≡◌, ℕ, ◌<◌, Bool, false, not, length, get_or, replicate, ap, arith}
 use Rattle.std.proofs.Math.Path.{fun_ext}
 use Rattle.std.proofs.lemmas.Grind.{common_steps}
 use Rattle.board.specs.declared.request.Request.TheVariants.{Flip}
-use Rattle.board.specs.Sheets.{Function, Sheets, with_sheet}
+use Rattle.board.specs.Sheets.{Sheets, with_sheet}
 use Rattle.board.specs.Requests.{Meaning, after}
 use Rattle.sign.specs.declared.marks.Marks.{Marks}
-use Rattle.sign.specs.Marks.{mark_at, with_mark, signed, marked, meaning_above}
-
--- the opposite mark gives the opposite value
-opposite : (m x : Bool) → signed (not m) x ≡ not (signed m x)
-opposite true true = refl
-opposite true false = refl
-opposite false x = refl
+use Rattle.sign.specs.Marks.{mark_at, with_mark, meaning_above}
 
 -- what a board means with other sheets
 abbrev pub with_sheets : Meaning → Sheets → Meaning
@@ -26,15 +20,9 @@ none_marked n i = grind (arith, common_steps)
 pub unmarked_same : (ms : Marks) → ((i : ℕ) → mark_at ms i ≡ false) → (m : Meaning) → meaning_above ms m ≡ m
 unmarked_same ms none m = ap (with_sheets m) (fun_ext (λ i. fun_ext (λ s. grind (arith, none))))
 
--- the sheets above once a sheet below is written and its mark set
-pub sheets_above : (ms : Marks) (f : Sheets) (d : ℕ) (k : Bool) (g : Function) → d < length ms.by_sheet
-    → marked (with_mark ms d k) (with_sheet f d g) ≡ with_sheet (marked ms f) d (λ s. signed k (g s))
-unfolding with_sheet
-sheets_above ms f d k g lt = fun_ext (λ i. fun_ext (λ s. grind (arith, common_steps)))
-
 -- a mark that is turned flips the sheet
 pub flipped_above : (ms : Marks) (m : Meaning) (d : ℕ) (k : Bool) → d < length ms.by_sheet → k ≡ not (mark_at ms d)
     → meaning_above (with_mark ms d k) m ≡ after (meaning_above ms m) (Flip d)
 unfolding with_sheet
 flipped_above ms m d k lt turned =
-    ap (with_sheets m) (fun_ext (λ i. fun_ext (λ s. grind (arith, common_steps, opposite))))
+    ap (with_sheets m) (fun_ext (λ i. fun_ext (λ s. grind (arith, common_steps))))

@@ -2,4 +2,3 @@ pub mod Marks
 pub mod Signs
 pub mod Layer
 pub mod Codes
-pub mod Turned
