@@ -48,8 +48,7 @@ module _ {B : Type 0} (meaning : B → Meaning) (fills : B → Rule) where
   -- no request is left
   pub all_done : (b : B) (qs : List Request) (k : ℕ) (c : B) → length qs ≤ k
       → Performed meaning fills b (take k qs) c (Ok tt) → meaning c ≡ after_all (meaning b) qs
-  all_done b qs k c past first =
-      all_written b qs c (subst (λ (rs : List Request). Performed meaning fills b rs c (Ok tt)) (take_all k qs past) first)
+  all_done b qs k c past first = all_written b qs c (rw (take_all k qs past) at first)
 
 -- the steps of a run of requests, and its end
 pub ruleset in_turn = (one_done, one_refused, all_done)

@@ -1,5 +1,5 @@
--- What a call that writes asks for. As in the rules, d is the sheet written, a and b are sheets read, p is a place, v a value
--- and c a code.
+-- What a call that writes asks for. As in the rules, d is the sheet written, a and b are sheets read, p is a place,
+-- v a value and c a code.
 use Rattle.std.specs.Prelude.{◌≡◌, ℕ, ◌<◌, ◌≤◌, Bool, true, false, cond, not, ◌&&◌, ◌||◌, List, length}
 use mathlib.Core.List.{Memᴰ}
 use Rattle.knowledge.specs.Sets.{has}

@@ -1,17 +1,17 @@
 -- How a request to a sign ends, by how the one ends that is handed down for it.
-use Rattle.std.proofs.Common.{◌≡◌, ℕ, ◌<◌, length, Some, Option, IsSomeAnd, refl, ap, ◌∙◌, arith}
+use Rattle.std.proofs.Common.{◌≡◌, ◌<◌, length, Some, refl, ap, ◌∙◌, arith}
 use Rattle.std.proofs.Math.Path.{fun_ext}
 use Rattle.std.proofs.lemmas.Grind.{common_steps}
 use Rattle.knowledge.specs.declared.fault.Fault.{Fault}
 use Rattle.board.specs.declared.request.Request.{Request}
 use Rattle.board.specs.Sheets.{with_sheet}
-use Rattle.board.specs.Requests.{written, result, SheetsKnown, Meaning}
+use Rattle.board.specs.Requests.{written, Meaning}
 use Rattle.board.specs.Calls.{Rule, Done, Refused}
 use Rattle.board.proofs.Layers.{why_up}
 use Rattle.sign.specs.declared.marks.Marks.{Marks}
-use Rattle.sign.specs.Marks.{with_mark, marked, meaning_above, handed, new_mark, fills_above}
+use Rattle.sign.specs.Marks.{with_mark, meaning_above, handed, new_mark, fills_above}
 use Rattle.sign.specs.Layer.{alike, result_above}
-use Rattle.sign.proofs.Marked.{with_sheets, sheets_above}
+use Rattle.sign.proofs.Marked.{with_sheets}
 
 -- a request that is done below is done above, once the sheet that it wrote has its new mark
 pub done_above : (ms : Marks) (q r : Request) {m m' : Meaning} {F : Rule}

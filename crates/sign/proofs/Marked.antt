@@ -3,10 +3,10 @@ use Rattle.std.proofs.Common.{◌≡◌, ℕ, ◌<◌, Bool, false, not, length,
 use Rattle.std.proofs.Math.Path.{fun_ext}
 use Rattle.std.proofs.lemmas.Grind.{common_steps}
 use Rattle.board.specs.declared.request.Request.TheVariants.{Flip}
-use Rattle.board.specs.Sheets.{Function, Sheets, with_sheet}
+use Rattle.board.specs.Sheets.{Sheets, with_sheet}
 use Rattle.board.specs.Requests.{Meaning, after}
 use Rattle.sign.specs.declared.marks.Marks.{Marks}
-use Rattle.sign.specs.Marks.{mark_at, with_mark, signed, marked, meaning_above}
+use Rattle.sign.specs.Marks.{mark_at, with_mark, meaning_above}
 
 -- what a board means with other sheets
 abbrev pub with_sheets : Meaning → Sheets → Meaning

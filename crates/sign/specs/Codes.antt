@@ -36,7 +36,8 @@ pub recoded_small : (x y : Bool) (c : ℕ) → c < 16 → recoded x y c < 16
 recoded_small x y c lt = rw (recoded_low x y c lt) (code_small (joined_under x y c))
 
 -- the recoded code joins the values below as the code joins them under the marks
-pub joined_recoded : (x y : Bool) (c : ℕ) (a b : Bool) → c < 16 → joined (recoded x y c) a b ≡ joined c (signed x a) (signed y b)
+pub joined_recoded : (x y : Bool) (c : ℕ) (a b : Bool) → c < 16
+    → joined (recoded x y c) a b ≡ joined c (signed x a) (signed y b)
 joined_recoded x y c a b lt = rw (recoded_low x y c lt) (code_joins (joined_under x y c) a b)
 
 -- so recoding is right

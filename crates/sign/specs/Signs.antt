@@ -15,8 +15,9 @@ meaning_of meaning b = meaning_above b.marks (meaning b.below)
 abbrev pub fills_of : {B : Type 0} → (B → Rule) → Sign B → Rule
 fills_of fills b = fills_above b.marks (fills b.below)
 
--- How a call ends, from the sign b to the sign b': as on every board. Inside, the sheet written gets its new mark and no other mark
--- changes; the request that is handed down ends below as the call does, and where none is, the board below stays as it is.
+-- How a call ends, from the sign b to the sign b': as on every board. Inside, the sheet written gets its new mark and
+-- no other mark changes; the request that is handed down ends below as the call does, and where none is, the board below
+-- stays as it is.
 abbrev pub Layered : {A B : Type 0} → (B → Meaning) → (B → Rule) → Sign B → Request → Sign B → Result A Fault → Type 0
 Layered meaning fills b q b' (Ok _) =
     Done (meaning_of meaning b) (fills_of fills b) q (meaning_of meaning b')

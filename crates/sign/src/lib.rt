@@ -44,8 +44,8 @@ impl<B: Board> Sign<B> {
         below
     }
 
-    // Makes a request below and, once it is done, gives the sheet written its mark. So ends every request that is to be handed
-    // down as this one with this mark.
+    // Makes a request below and, once it is done, gives the sheet written its mark. So ends every request that is to be
+    // handed down as this one with this mark.
     fn hand_down(&mut self, request: Request, mark: bool) -> Result<(), Fault>
         ensures { (q : Request)
             → handed self.old.marks q ≡ Some request

@@ -60,8 +60,8 @@ pub(crate) fn exchange(mark: bool, quantifier: Quantifier) -> Quantifier
     }
 }
 
-// The code that joins two sheets below as the code joins them under their marks; one that no join has is left for the board
-// below to refuse.
+// The code that joins two sheets below as the code joins them under their marks; one that no join has is left for the
+// board below to refuse.
 #[tactic(auto, using(crate::proofs::Exchanges::recodes))]
 pub(crate) fn recode(left_mark: bool, right_mark: bool, code: u8) -> u8
     ensures is { result ≡ recoded left_mark right_mark code }
