@@ -1,3 +1,4 @@
 pub mod Turns
 pub mod Rows
 pub mod Lending
+pub mod Replaced

@@ -23,6 +23,10 @@ at_byte xs i k t lt =
     let r : (8 * k + t) % 8 ≡ t = omega arith in
     rw (q, r)
 
+-- a mask leaves the bits that stand for a width's states
+pub masked : (byte mask w t : ℕ) → has mask t ≡ nat_lt t (2 ^ w) → has (bit_and byte mask) t ≡ (has byte t && nat_lt t (2 ^ w))
+masked byte mask w t mine = has_and byte mask t ∙ ap (λ (b : Bool). has byte t && b) mine
+
 -- from width 3 on each byte is full
 pub live_wide : (w : ℕ) → 3 ≤ w → live w ≡ 2 ^ (w - 3)
 live_wide w wide = ap (λ (b : Bool). cond b 1 (2 ^ (w - 3))) (le-ltb w 3 wide)
@@ -75,11 +79,7 @@ module _ {xs ys : List ℕ} {w d m : ℕ} {f : ℕ → Bool} (h : Front xs ys w 
   -- one byte more, of which a mask leaves the width's states
   pub next_masked : (byte mask : ℕ) → d < 64 → m < 512 → ((t : ℕ) → t < 8 → has mask t ≡ nat_lt t (2 ^ w))
       → ((t : ℕ) → t < 8 → has byte t ≡ f (8 * m + t)) → Front xs (slice_set ys (512 * d + m) (bit_and byte mask)) w d (m + 1) f
-  next_masked byte mask known inside mine bits =
-      next (bit_and byte mask) known inside
-      (λ t lt. has_and byte mask t
-      ∙ ap (λ (b : Bool). has byte t && b) (mine t lt)
-      ∙ ap (λ (b : Bool). b && nat_lt t (2 ^ w)) (bits t lt))
+  next_masked byte mask known inside mine bits = next (bit_and byte mask) known inside (λ t lt. masked byte mask w t (mine t lt) ∙ ap (λ (b : Bool). b && nat_lt t (2 ^ w)) (bits t lt))
 
   -- from byte m on, each block is as it was
   pub old_bit : (i k t : ℕ) → m ≤ k → k < 512 → t < 8 → has (slice_index ys (512 * i + k)) t ≡ at xs i (8 * k + t)

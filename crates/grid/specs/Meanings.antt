@@ -1,18 +1,20 @@
 -- What a grid's bytes say.
-use Rattle.std.specs.Prelude.{◌≡◌, ℕ, zero, suc, ◌+◌, ◌*◌, ◌/◌, ◌%◌, ◌^◌, ◌<◌, ◌≤◌, Bool, true, false, cond, not, ◌&&◌, List, replicate, nat_lt, slice_index, slice_index_or, refl}
+use Rattle.std.specs.Prelude.{◌≡◌, ℕ, zero, suc, ◌+◌, ◌*◌, ◌/◌, ◌%◌, ◌^◌, ◌<◌, ◌≤◌, Bool, true, false, cond, not, ◌&&◌, List, length, replicate, nat_lt, slice_index, slice_index_or, refl, ◌≢◌}
 use Rattle.std.proofs.Common.{sym, ap, subst, ◌∙◌, ⊎_elim, mod-eq_of_lt, arith}
 use Rattle.std.proofs.Math.Path.{fun_ext}
-use Rattle.std.proofs.lemmas.Bool.{cases_lt, lt-ltb, le-ltb}
+use Rattle.std.specs.List.{AllWithin, HoldsAt}
+use Rattle.std.specs.Bool.{MatchBool}
+use Rattle.std.proofs.lemmas.Bool.{cases_lt, lt-ltb, le-ltb, false≢true}
 use Rattle.knowledge.specs.Sets.{has}
 use Rattle.knowledge.proofs.Bits.{has_zero}
 use Rattle.board.specs.declared.request.Quantifier.{Quantifier}
 use Rattle.board.specs.declared.request.Quantifier.TheVariants.{ForAll, Exists}
 use Rattle.board.specs.Sheets.{State, Function, Sheets, state_of}
 use Rattle.board.specs.Requests.{Meaning, joined, over}
-use Rattle.board.specs.Calls.{Sound}
+use Rattle.board.specs.Calls.{Sound, Everywhere}
 use Rattle.grid.specs.Layout.{at, index, sheet, meaning_of, unwritten, Clean}
 use Rattle.grid.specs.Pieces.{live, Held, Stored}
-use Rattle.grid.specs.Octets.{and_true, and_false}
+use Rattle.grid.specs.Octets.{and_true, and_false, byte_ext}
 use Rattle.grid.specs.Numbers.{index_lt, index_local, index_state}
 use Rattle.grid.specs.Fronts.{at_byte, live_size}
 
@@ -138,3 +140,16 @@ module _ (xs : List ℕ) (w a byte : ℕ) (v : Bool)
       outside h =
           let first : k ≡ 0 = omega (arith, live_size w) in
           held.clean a (8 * k + t) (h, omega arith) ∙ sym (unseen t tl (omega arith))
+
+  -- whether the live bytes are all this one says whether the value is said at every state
+  pub all_answer : (ys : List ℕ) (r : Bool) → ((k : ℕ) → k < live w → slice_index ys k ≡ slice_index xs (512 * a + k)) → length ys ≡ live w
+      → byte < 256
+      → MatchBool r (AllWithin (λ x. x ≡ byte) ys 0 (length ys)) ((k : ℕ) × (k < length ys) × HoldsAt (λ x. (x ≢ byte) × (x < 256)) ys k)
+      → Everywhere v (sheet xs w a) r
+  all_answer ys true part size small found =
+      ((λ yes. all_say (λ k lt. sym (part k lt) ∙ found k 0 (omega arith) (omega arith))), (λ says. refl))
+  all_answer ys false part size small (k, lt, other) =
+      let is = part k (omega arith) in
+      ((λ yes. absurd (false≢true yes)),
+      (λ says. absurd ((other 0).0 (byte_ext (slice_index ys k) byte (other 0).1 small
+          (λ t tl. ap (λ (x : ℕ). has x t) is ∙ say_all says k t (omega arith) tl)))))

@@ -1,14 +1,17 @@
 // Blocks of 512 bytes, one for each sheet, read and written in place. Only a block's live bytes are gone over: the others are
 // 0 and stay so.
-ghost use Rattle.std.specs.Prelude.{◌<◌};
+ghost use Rattle.std.specs.Prelude.{◌≡◌, ◌+◌, ◌*◌, ◌<◌, ◌≤◌};
 ghost use Rattle.board.specs.declared.request.Request.TheVariants.{Blank, Atom, Join, Flip, Quantify, Fix};
 ghost use Rattle.board.specs.Calls.{At, Everywhere};
 ghost use Rattle.grid.specs.Layout.{meaning_of};
-ghost use Rattle.grid.specs.Pieces.{Held, CarriedOut};
+ghost use Rattle.grid.specs.Pieces.{Held, CarriedOut, live};
+ghost use Rattle.grid.specs.Grids.{meaning, Wrote};
 
+use crate::Grid;
 use crate::binds::bind_block;
 use crate::bytes::{Cases, atom_byte, bit, blank_byte, join_byte, live_bits, live_bytes};
 use board::request::Quantifier;
+use std::ops::Range;
 
 // How many bytes a sheet has.
 pub(crate) const BLOCK: usize = 512;
@@ -28,30 +31,60 @@ const LEFT: u8 = 12;
 // The join that says yes where at least one sheet does.
 const EITHER: u8 = 14;
 
-// Puts the value at every state of the sheet.
-pub(crate) fn blank_block(bytes: &mut Vec<u8>, width: usize, sheet: usize, value: bool)
-    requires held { Held bytes.old.items width }
-    requires sheets { sheet < 64 }
-    ensures { CarriedOut bytes.old.items width (Blank sheet value) bytes.new.items }
-{
-    let byte = blank_byte(width, value);
-    let bytes = bytes.as_mut_slice();
-    for k in 0..live_bytes(width) {
-        bytes[BLOCK * sheet + k] = byte;
+impl Grid {
+    // Puts the value at every state of the sheet.
+    pub(crate) fn blank_sheet(&mut self, sheet: usize, value: bool)
+        requires { sheet < 64 }
+        ensures { Wrote self.old (Blank sheet value) self.new }
+    {
+        let live = self.live(sheet);
+        let byte = blank_byte(self.width, value);
+        self.bytes[live].fill(byte);
     }
-}
 
-// Puts the value of the place into the sheet.
-pub(crate) fn atom_block(bytes: &mut Vec<u8>, width: usize, sheet: usize, place: usize)
-    requires held { Held bytes.old.items width }
-    requires sheets { sheet < 64 }
-    requires places { place < width }
-    ensures { CarriedOut bytes.old.items width (Atom sheet place) bytes.new.items }
-{
-    let mask = live_bits(width);
-    let bytes = bytes.as_mut_slice();
-    for k in 0..live_bytes(width) {
-        bytes[BLOCK * sheet + k] = atom_byte(place, k) & mask;
+    // Puts the value of the place into the sheet.
+    pub(crate) fn atom_sheet(&mut self, sheet: usize, place: usize)
+        requires sheets { sheet < 64 }
+        requires places { place < self.old.width }
+        ensures { Wrote self.old (Atom sheet place) self.new }
+    {
+        let live = self.live(sheet);
+        let mask = live_bits(self.width);
+        let bytes = &mut self.bytes[live];
+        for (k, byte) in bytes.iter_mut().enumerate() {
+            *byte = atom_byte(place, k) & mask;
+        }
+    }
+
+    // What the sheet says at the state of a number.
+    pub(crate) fn read_sheet(&self, sheet: usize, state: u64) -> bool
+        requires { sheet < 64 }
+        ensures { At state ((meaning self.now).sheets sheet) result }
+    {
+        let number = (state % (1 << self.width)) as usize;
+        bit(self.bytes[BLOCK * sheet + number / 8], (number % 8) as u8)
+    }
+
+    // Whether the sheet says the value at every state.
+    pub(crate) fn all_sheet(&self, sheet: usize, value: bool) -> bool
+        requires { sheet < 64 }
+        ensures { Everywhere value ((meaning self.now).sheets sheet) result }
+    {
+        let live = self.live(sheet);
+        let wanted = blank_byte(self.width, value);
+        let bytes = &self.bytes[live];
+        bytes.iter().all(|byte| *byte == wanted)
+    }
+
+    // Where the sheet's live bytes lie.
+    fn live(&self, sheet: usize) -> Range<usize>
+        requires { sheet < 64 }
+        ensures start { result.start ≡ 512 * sheet }
+        ensures end { result.end ≡ 512 * sheet + live self.now.width }
+        ensures inside { (result.start ≤ result.end) × (result.end ≤ 32768) }
+    {
+        let start = BLOCK * sheet;
+        start..start + live_bytes(self.width)
     }
 }
 
@@ -125,27 +158,3 @@ pub(crate) fn fix_block(
     bind_block(bytes, width, sheet, from, place, code);
 }
 
-// What the sheet says at the state of a number.
-pub(crate) fn read_block(bytes: &[u8], width: usize, sheet: usize, state: u64) -> bool
-    requires held { Held bytes.now width }
-    requires sheets { sheet < 64 }
-    ensures { At state ((meaning_of bytes.now width).sheets sheet) result }
-{
-    let number = (state % (1 << width)) as usize;
-    bit(bytes[BLOCK * sheet + number / 8], (number % 8) as u8)
-}
-
-// Whether the sheet says the value at every state.
-pub(crate) fn all_block(bytes: &[u8], width: usize, sheet: usize, value: bool) -> bool
-    requires held { Held bytes.now width }
-    requires sheets { sheet < 64 }
-    ensures { Everywhere value ((meaning_of bytes.now width).sheets sheet) result }
-{
-    let byte = blank_byte(width, value);
-    for k in 0..live_bytes(width) {
-        if bytes[BLOCK * sheet + k] != byte {
-            return false;
-        }
-    }
-    true
-}

@@ -4,8 +4,7 @@ ghost use Rattle.grid.specs.Meanings;
 
 use crate::Grid;
 use crate::blocks::{
-    all_block, atom_block, blank_block, fix_block, flip_block, join_block, quantify_block,
-    read_block,
+    fix_block, flip_block, join_block, quantify_block,
 };
 use board::Board;
 use board::request::{Quantifier, Request, check_sheet};
@@ -21,13 +20,13 @@ impl Board for Grid {
 
     fn blank(&mut self, sheet: usize, value: bool) -> Result<(), Fault> {
         Request::Blank { sheet, value }.check(self.width)?;
-        blank_block(&mut self.bytes, self.width, sheet, value);
+        self.blank_sheet(sheet, value);
         Ok(())
     }
 
     fn atom(&mut self, sheet: usize, place: usize) -> Result<(), Fault> {
         Request::Atom { sheet, place }.check(self.width)?;
-        atom_block(&mut self.bytes, self.width, sheet, place);
+        self.atom_sheet(sheet, place);
         Ok(())
     }
 
@@ -81,12 +80,12 @@ impl Board for Grid {
 
     fn read(&self, sheet: usize, state: u64) -> Result<bool, Fault> {
         check_sheet(sheet)?;
-        Ok(read_block(&self.bytes, self.width, sheet, state))
+        Ok(self.read_sheet(sheet, state))
     }
 
     fn all(&self, sheet: usize, value: bool) -> Result<bool, Fault> {
         check_sheet(sheet)?;
-        Ok(all_block(&self.bytes, self.width, sheet, value))
+        Ok(self.all_sheet(sheet, value))
     }
 
     fn width(&self) -> usize {

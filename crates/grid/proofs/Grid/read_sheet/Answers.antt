@@ -1,0 +1,27 @@
+use Rattle.std.proofs.Common.{◌≡◌, ℕ, ◌*◌, ◌%◌, ◌^◌, ◌<◌, ◌≤◌, ap, ◌∙◌, arith, pow_mono}
+use Rattle.std.proofs.lemmas.Nat.{pow_pos, mod_below}
+use Rattle.std.proofs.lemmas.List.{get_or_read}
+use Rattle.knowledge.specs.Sets.{has}
+use Rattle.grid.specs.Meanings.{read_at}
+use Rattle.grid.proofs.Grid.read_sheet.Goals as goal
+
+-- a state's number lies among the width's states
+number : (s w : ℕ) → w ≤ 12 → (s % ((1 * 2 ^ w) % 18446744073709551616) ≡ s % 2 ^ w) × (s % 2 ^ w < 4096)
+number s w narrow =
+    let most : 2 ^ w ≤ 4096 = pow_mono narrow in
+    let one : (1 * 2 ^ w) % 18446744073709551616 ≡ 2 ^ w = omega arith in
+    (ap (λ (n : ℕ). s % n) one, omega (arith, mod_below s (2 ^ w) (pow_pos w)))
+
+pub index-requires : goal.index-requires
+index-requires c =
+    let whole = c.args.self.now.whole in let len = c.args.self.now.bytes.ok.0 in
+    omega (arith, number c.args.state c.args.self.now.width c.args.self.now.narrow)
+
+pub returns : goal.returns
+returns c =
+    let whole = c.args.self.now.whole in
+    let inside = number c.args.state c.args.self.now.width c.args.self.now.narrow in
+    let is = (number c.args.state c.args.self.now.width c.args.self.now.narrow).0 in
+    c.bit.ensures
+    ∙ ap (λ (x : ℕ). has x (c.args.state % (1 * 2 ^ c.args.self.now.width % 18446744073709551616) % 8)) (get_or_read c.args.self.now.bytes.items _ c.index.result.now (omega arith) c.index.ensures 0)
+    ∙ read_at c.args.self.now.bytes.items c.args.self.now.width c.args.sheet c.args.state _ is
