@@ -1,14 +1,27 @@
 -- What a call leaves of a grid.
-use Rattle.std.specs.Prelude.{◌≡◌}
+use Rattle.std.specs.Prelude.{◌≡◌, ℕ, ◌+◌, ◌*◌, ◌<◌, Bool, slice_index}
+use Rattle.knowledge.specs.Sets.{has}
 use Rattle.board.specs.declared.request.Request.{Request}
-use Rattle.board.specs.Requests.{Meaning, after}
+use Rattle.board.specs.Sheets.{Function}
+use Rattle.board.specs.Requests.{Meaning, written, result}
 use Rattle.grid.specs.declared.Grid.{Grid}
 use Rattle.grid.specs.Layout.{meaning_of}
+use Rattle.grid.specs.Pieces.{live, writing}
 
 -- what a grid means
 abbrev pub meaning : Grid → Meaning
 meaning g = meaning_of g.bytes.items g.width
 
+-- the grid h is the grid g with a function in sheet d
+abbrev pub Rewrote : Grid → ℕ → Function → Grid → Type 0
+Rewrote g d f h = meaning h ≡ writing (meaning g) d f
+
 -- the grid h is the grid g once a request was done
 abbrev pub Wrote : Grid → Request → Grid → Type 0
-Wrote g q h = meaning h ≡ after (meaning g) q
+Wrote g q h = Rewrote g (written q) (result (meaning g).sheets q) h
+
+-- what a step gives for each two live bytes of sheets a and b has the bits of a function of a state's number
+abbrev pub Combines : (ℕ → ℕ → ℕ → Type 0) → Grid → ℕ → ℕ → (ℕ → Bool) → Type 0
+Combines Gives g a b f =
+    let xs = g.bytes.items in
+    (k t r : ℕ) → k < live g.width → t < 8 → Gives (slice_index xs (512 * a + k)) (slice_index xs (512 * b + k)) r → has r t ≡ f (8 * k + t)

@@ -33,7 +33,7 @@ and_false true = refl
 and_false false = refl
 
 -- a byte turned round
-has_not : (x t : ℕ) → x < 256 → t < 8 → has (255 - x) t ≡ not (has x t)
+pub has_not : (x t : ℕ) → x < 256 → t < 8 → has (255 - x) t ≡ not (has x t)
 has_not x t small lt =
     below_eight (λ t. has (255 - x) t ≡ not (has x t))
     (grind (arith, nat_tests)) (grind (arith, nat_tests)) (grind (arith, nat_tests)) (grind (arith, nat_tests))

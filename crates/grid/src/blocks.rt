@@ -1,35 +1,18 @@
 // Blocks of 512 bytes, one for each sheet, read and written in place. Only a block's live bytes are gone over: the others are
 // 0 and stay so.
-ghost use Rattle.std.specs.Prelude.{◌≡◌, ◌+◌, ◌*◌, ◌<◌, ◌≤◌};
-ghost use Rattle.board.specs.declared.request.Request.TheVariants.{Blank, Atom, Join, Flip, Quantify, Fix};
+ghost use Rattle.std.specs.Prelude.{◌≡◌, ℕ, Bool, ◌+◌, ◌*◌, ◌<◌, ◌≤◌};
+ghost use Rattle.board.specs.declared.request.Request.TheVariants.{Blank, Atom, Join, Flip};
 ghost use Rattle.board.specs.Calls.{At, Everywhere};
-ghost use Rattle.grid.specs.Layout.{meaning_of};
-ghost use Rattle.grid.specs.Pieces.{Held, CarriedOut, live};
-ghost use Rattle.grid.specs.Grids.{meaning, Wrote};
+ghost use Rattle.grid.specs.Layout.{index, meaning_of};
+ghost use Rattle.grid.specs.Pieces.{live};
+ghost use Rattle.grid.specs.Grids.{meaning, Combines, Rewrote, Wrote};
 
 use crate::Grid;
-use crate::binds::bind_block;
 use crate::bytes::{Cases, atom_byte, bit, blank_byte, join_byte, live_bits, live_bytes};
-use board::request::Quantifier;
 use std::ops::Range;
 
 // How many bytes a sheet has.
 pub(crate) const BLOCK: usize = 512;
-
-// The join that says yes where neither sheet does.
-const NEITHER: u8 = 1;
-
-// The join that says yes where both sheets do.
-const BOTH: u8 = 8;
-
-// The join that says what the right sheet says.
-const RIGHT: u8 = 10;
-
-// The join that says what the left sheet says.
-const LEFT: u8 = 12;
-
-// The join that says yes where at least one sheet does.
-const EITHER: u8 = 14;
 
 impl Grid {
     // Puts the value at every state of the sheet.
@@ -53,6 +36,40 @@ impl Grid {
         let bytes = &mut self.bytes[live];
         for (k, byte) in bytes.iter_mut().enumerate() {
             *byte = atom_byte(place, k) & mask;
+        }
+    }
+
+    // Puts bit 2 × (left's value) + (right's value) of the code into the sheet.
+    pub(crate) fn join_sheet(&mut self, sheet: usize, left: usize, right: usize, code: u8)
+        requires { (sheet < 64) × ((left < 64) × (right < 64)) }
+        ensures { Wrote self.old (Join sheet left right code) self.new }
+    {
+        let cases = Cases::of(code);
+        self.combine(sheet, left, right, |left, right| join_byte(cases, left, right));
+    }
+
+    // Turns every value of the sheet round.
+    pub(crate) fn flip_sheet(&mut self, sheet: usize)
+        requires { sheet < 64 }
+        ensures { Wrote self.old (Flip sheet) self.new }
+    {
+        self.combine(sheet, sheet, sheet, |byte, _| !byte);
+    }
+
+    // Puts what the step gives for each two live bytes of the left and the right sheet into the sheet.
+    // An index, and no slices: the sheet may be the left or the right one, and would overlap it.
+    pub(crate) fn combine<F: Fn(u8, u8) -> u8>(&mut self, sheet: usize, left: usize, right: usize, step: F)
+        requires sheets { (sheet < 64) × ((left < 64) × (right < 64)) }
+        requires callable { F.IsAlwaysCallable step }
+        ensures { (f : ℕ → Bool) → Combines (F.post step) self.old left right f
+            → Rewrote self.old sheet (λ s. f (index self.old.width s)) self.new }
+    {
+        let mask = live_bits(self.width);
+        let live = live_bytes(self.width);
+        let bytes = self.bytes.as_mut_slice();
+        for k in 0..live {
+            let byte = step(bytes[BLOCK * left + k], bytes[BLOCK * right + k]);
+            bytes[BLOCK * sheet + k] = byte & mask;
         }
     }
 
@@ -87,74 +104,3 @@ impl Grid {
         start..start + live_bytes(self.width)
     }
 }
-
-// Puts bit 2 × (left's value) + (right's value) of the code into the sheet.
-pub(crate) fn join_block(
-    bytes: &mut Vec<u8>,
-    width: usize,
-    sheet: usize,
-    left: usize,
-    right: usize,
-    code: u8,
-)
-    requires held { Held bytes.old.items width }
-    requires sheets { (sheet < 64) × ((left < 64) × (right < 64)) }
-    ensures { CarriedOut bytes.old.items width (Join sheet left right code) bytes.new.items }
-{
-    let cases = Cases::of(code);
-    let mask = live_bits(width);
-    let bytes = bytes.as_mut_slice();
-    for k in 0..live_bytes(width) {
-        let byte = join_byte(cases, bytes[BLOCK * left + k], bytes[BLOCK * right + k]);
-        bytes[BLOCK * sheet + k] = byte & mask;
-    }
-}
-
-// Turns every value of the sheet round.
-pub(crate) fn flip_block(bytes: &mut Vec<u8>, width: usize, sheet: usize)
-    requires held { Held bytes.old.items width }
-    requires sheets { sheet < 64 }
-    ensures { CarriedOut bytes.old.items width (Flip sheet) bytes.new.items }
-{
-    join_block(bytes, width, sheet, sheet, sheet, NEITHER);
-}
-
-// Puts what another sheet says for both values of the place, or for at least one, into the sheet.
-pub(crate) fn quantify_block(
-    bytes: &mut Vec<u8>,
-    width: usize,
-    sheet: usize,
-    from: usize,
-    place: usize,
-    quantifier: Quantifier,
-)
-    requires held { Held bytes.old.items width }
-    requires sheets { (sheet < 64) × (from < 64) }
-    requires places { place < width }
-    ensures { CarriedOut bytes.old.items width (Quantify sheet from place quantifier) bytes.new.items }
-{
-    let code = match quantifier {
-        Quantifier::ForAll => BOTH,
-        Quantifier::Exists => EITHER,
-    };
-    bind_block(bytes, width, sheet, from, place, code);
-}
-
-// Puts what another sheet says with the place set to the value into the sheet.
-pub(crate) fn fix_block(
-    bytes: &mut Vec<u8>,
-    width: usize,
-    sheet: usize,
-    from: usize,
-    place: usize,
-    value: bool,
-)
-    requires held { Held bytes.old.items width }
-    requires sheets { (sheet < 64) × (from < 64) }
-    requires places { place < width }
-    ensures { CarriedOut bytes.old.items width (Fix sheet from place value) bytes.new.items }
-{
-    let code = if value { RIGHT } else { LEFT };
-    bind_block(bytes, width, sheet, from, place, code);
-}
-

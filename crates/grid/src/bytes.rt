@@ -92,8 +92,7 @@ pub(crate) fn join_byte(cases: Cases, left: u8, right: u8) -> u8
 
 // The eight states with one of the first three places set to a value: each bit is that of the state which its own becomes.
 pub(crate) fn settle_byte(byte: u8, place: usize, value: bool) -> u8
-    requires { place < 3 }
-    ensures { (t : ℕ) → t < 8 → has result t ≡ has byte (placed place t value) }
+    ensures { (t : ℕ) → place < 3 → t < 8 → has result t ≡ has byte (placed place t value) }
 {
     match place {
         0 => {

@@ -3,9 +3,6 @@ ghost use Rattle.grid.specs.Layout.{meaning_of};
 ghost use Rattle.grid.specs.Meanings;
 
 use crate::Grid;
-use crate::blocks::{
-    fix_block, flip_block, join_block, quantify_block,
-};
 use board::Board;
 use board::request::{Quantifier, Request, check_sheet};
 use knowledge::fault::Fault;
@@ -38,13 +35,13 @@ impl Board for Grid {
             code,
         }
         .check(self.width)?;
-        join_block(&mut self.bytes, self.width, sheet, left, right, code);
+        self.join_sheet(sheet, left, right, code);
         Ok(())
     }
 
     fn flip(&mut self, sheet: usize) -> Result<(), Fault> {
         Request::Flip { sheet }.check(self.width)?;
-        flip_block(&mut self.bytes, self.width, sheet);
+        self.flip_sheet(sheet);
         Ok(())
     }
 
@@ -62,7 +59,7 @@ impl Board for Grid {
             quantifier,
         }
         .check(self.width)?;
-        quantify_block(&mut self.bytes, self.width, sheet, from, place, quantifier);
+        self.quantify_sheet(sheet, from, place, quantifier);
         Ok(())
     }
 
@@ -74,7 +71,7 @@ impl Board for Grid {
             value,
         }
         .check(self.width)?;
-        fix_block(&mut self.bytes, self.width, sheet, from, place, value);
+        self.fix_sheet(sheet, from, place, value);
         Ok(())
     }
 

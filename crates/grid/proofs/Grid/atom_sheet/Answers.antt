@@ -1,34 +1,51 @@
-use Rattle.std.proofs.Common.{◌≡◌, ◌-◌, Bool, ◌&&◌, ◌^◌, nat_lt, length, ap, ◌∙◌, arith, rules}
-use borrow.Rule.Slice.PartMut.{put_mid}
-use Rattle.grid.specs.Fronts.{masked}
+use Rattle.std.proofs.Common.{◌≡◌, ◌-◌, ◌<◌, ◌∙◌, ℕ, length, slice_index, slice_set, bit_and, get_or-set_same, get_or-set_other, arith, rules}
 use Rattle.knowledge.specs.Sets.{has}
+use Rattle.grid.specs.Fronts.{Bare, bare_more, says_more, masked, at_state, past_states}
 use Rattle.grid.specs.Numbers.{has_index}
-use Rattle.grid.proofs.Replaced.{Leaves, block_done, bits_more}
+use Rattle.grid.proofs.Replaced.{part_held, part_means}
 use Rattle.grid.proofs.Grid.atom_sheet.Goals as goal
 use Rattle.grid.proofs.Grid.atom_sheet.Goals.{After-loop-k}
 
 pub loop-k-preserved : goal.loop-k-preserved
 loop-k-preserved c =
-    bits_more c.loop-k.bytes c.loop-k.k _ (λ j. has j c.args.place) c.args.self.now.width (search rules) c.loop-k.invariant
-    (λ t lt. masked c.atom_byte.result c.live_bits-mask.result c.args.self.now.width t (c.live_bits-mask.ensures t lt)
-    ∙ ap (λ (b : Bool). b && nat_lt t (2 ^ c.args.self.now.width)) (c.atom_byte.ensures t lt))
+    let w = c.args.self.now.width in let k = c.loop-k.k in let old = c.loop-k.bytes in
+    let byte = bit_and c.atom_byte.result c.live_bits-mask.result in
+    let here : slice_index (slice_set c.loop-k.bytes c.loop-k.k byte) c.loop-k.k ≡ byte = get_or-set_same old k byte 0 (search rules) in
+    let same : (n : ℕ) → n < c.loop-k.k → slice_index (slice_set c.loop-k.bytes c.loop-k.k byte) n ≡ slice_index c.loop-k.bytes n =
+    λ n lt. get_or-set_other old k n byte 0 (omega arith) in
+    record {
+      bare = bare_more (slice_index old) (slice_index (slice_set old k byte)) w k same c.loop-k.invariant.bare
+          (λ t lt out. rw here (past_states _ w t (masked c.atom_byte.result c.live_bits-mask.result w t (c.live_bits-mask.ensures t lt)) out));
+      says = says_more (slice_index old) (slice_index (slice_set old k byte)) w k same (λ j. has j c.args.place) c.loop-k.invariant.says
+          (λ t lt seen. rw here (at_state _ w t (masked c.atom_byte.result c.live_bits-mask.result w t (c.live_bits-mask.ensures t lt)) seen ∙ c.atom_byte.ensures t lt));
+    }
 
--- the bytes that are left
-done : (c : After-loop-k) → Leaves c.args.self.now c.args.sheet (λ s. s c.args.place)
-    (put_mid c.live-live.result.start (c.live-live.result.end - c.live-live.result.start) c.deref_mut.result.now c.loop-k.bytes)
-done c =
-    let n = c.live-live.result.end - c.live-live.result.start in
-    let whole : length c.loop-k.bytes ≡ c.live-live.result.end - c.live-live.result.start = search rules in
-    block_done c.args.self.now c.loop-k.bytes c.args.sheet c.live-live.result.start n (λ j. has j c.args.place) _
-    c.deref_mut.ensures.value c.live-live.ensures.start (omega arith) c.requires.sheets whole
-    (λ k t lt tl. c.loop-k.invariant k t (omega arith) tl)
-    (λ s. has_index c.args.self.now.width c.args.place s c.requires.places)
+module _ (c : After-loop-k) where
+  abbrev n : ℕ
+  n = c.live-live.result.end - c.live-live.result.start
+
+  whole : length c.loop-k.bytes ≡ n
+  whole = search rules
+
+  bare : Bare (slice_index c.loop-k.bytes) c.args.self.now.width n
+  bare k t lt tl out = c.loop-k.invariant.bare k t (omega arith) tl out
 
 pub invariant_of-self-clause-whole : goal.invariant_of-self-clause-whole
-invariant_of-self-clause-whole c = (done (goal.at.invariant_of-self-clause-whole c).After-loop-k).held.size
+invariant_of-self-clause-whole c =
+    let b = (goal.at.invariant_of-self-clause-whole c).After-loop-k in
+    (part_held c.args.self.now c.loop-k.bytes c.args.sheet c.live-live.result.start (n b) (whole b) c.live-live.ensures.start
+    (omega arith) c.requires.sheets (bare b) c.deref_mut.ensures.value).size
 
 pub invariant_of-self-clause-clean : goal.invariant_of-self-clause-clean
-invariant_of-self-clause-clean c = (done (goal.at.invariant_of-self-clause-clean c).After-loop-k).held.clean
+invariant_of-self-clause-clean c =
+    let b = (goal.at.invariant_of-self-clause-clean c).After-loop-k in
+    (part_held c.args.self.now c.loop-k.bytes c.args.sheet c.live-live.result.start (n b) (whole b) c.live-live.ensures.start
+    (omega arith) c.requires.sheets (bare b) c.deref_mut.ensures.value).clean
 
 pub returns : goal.returns
-returns c = (done (goal.at.returns c).After-loop-k).means
+returns c =
+    let b = (goal.at.returns c).After-loop-k in
+    part_means c.args.self.now c.loop-k.bytes c.args.sheet c.live-live.result.start (n b) (whole b) c.live-live.ensures.start
+    (omega arith) c.requires.sheets (bare b) c.deref_mut.ensures.value (λ j. has j c.args.place) _
+    (λ k t lt tl seen. c.loop-k.invariant.says k t (omega arith) tl seen)
+    (λ s. has_index c.args.self.now.width c.args.place s c.requires.places)

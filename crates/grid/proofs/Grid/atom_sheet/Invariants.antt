@@ -1,7 +1,10 @@
-use Rattle.std.proofs.Common.{◌≡◌, ℕ, ◌+◌, ◌*◌, ◌^◌, ◌<◌, ◌&&◌, nat_lt, slice_index}
 use Rattle.knowledge.specs.Sets.{has}
+use Rattle.std.proofs.Common.{slice_index}
+use Rattle.grid.specs.Fronts.{Bare, Says}
 use Rattle.grid.proofs.Grid.atom_sheet.Given as goal
 
 abbrev pub invariant-loop-k : goal.invariant-loop-k
-invariant-loop-k l =
-    (k t : ℕ) → k < l.k → t < 8 → has (slice_index l.bytes k) t ≡ (has (8 * k + t) l.place && nat_lt t (2 ^ l.fn.self.width))
+invariant-loop-k l = record {
+  bare : Bare (slice_index l.bytes) l.fn.self.width l.k;
+  says : Says (slice_index l.bytes) l.fn.self.width l.k (λ j. has j l.place);
+}

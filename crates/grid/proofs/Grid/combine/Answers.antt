@@ -1,0 +1,28 @@
+use Rattle.std.proofs.Common.{◌≡◌, ◌∙◌, ℕ, ◌<◌, ◌&&◌, ◌^◌, nat_lt, bit_and, refl, arith}
+use Rattle.knowledge.specs.Sets.{has}
+use Rattle.grid.specs.Fronts.{next, says_next, old_byte, masked, at_state, past_states}
+use Rattle.grid.proofs.Replaced.{held_after, means_after}
+use Rattle.grid.proofs.Grid.combine.Goals as goal
+
+pub loop-k-preserved : goal.loop-k-preserved
+loop-k-preserved g c =
+    let front = c.loop-k.invariant.front in let k = c.loop-k.k in let w = c.args.self.now.width in
+    let byte = c.step-byte.result in let mask = c.live_bits-mask.result in
+    let bits : (t : ℕ) → t < 8 → has (bit_and c.step-byte.result c.live_bits-mask.result) t ≡ (has c.step-byte.result t && nat_lt t (2 ^ c.args.self.now.width)) =
+    λ t lt. masked byte mask w t (c.live_bits-mask.ensures t lt) in
+    record {
+      front = next front (bit_and byte mask) c.requires.sheets.0 (omega arith) (λ t lt out. past_states _ w t (bits t lt) out);
+      says = λ f gives. says_next front (bit_and byte mask) c.requires.sheets.0 (omega arith) f (c.loop-k.invariant.says f gives)
+          (λ t lt seen. at_state _ w t (bits t lt) seen ∙ gives k t byte (omega arith) lt
+          (rw (old_byte front c.args.left k (omega arith) (omega arith), old_byte front c.args.right k (omega arith) (omega arith)) at c.step-byte.ensures));
+    }
+
+pub invariant_of-self-clause-whole : goal.invariant_of-self-clause-whole
+invariant_of-self-clause-whole g c = (held_after c.args.self.now c.loop-k.invariant.front (omega arith)).size
+
+pub invariant_of-self-clause-clean : goal.invariant_of-self-clause-clean
+invariant_of-self-clause-clean g c = (held_after c.args.self.now c.loop-k.invariant.front (omega arith)).clean
+
+pub returns : goal.returns
+returns g c f gives =
+    means_after c.args.self.now c.loop-k.invariant.front (omega arith) f _ (c.loop-k.invariant.says f gives) (λ s. refl)
