@@ -68,8 +68,8 @@ module _ {Gives : ℕ → ℕ → ℕ → Type 0} {xs ys : List ℕ} {to from st
       high = λ n nl. ⊎_elim
           (λ (e : n ≡ k). rw e (at_high ∙ sym at_low))
           (λ (ne : n ≡ k → ⊥). elsewhere (to + stride + n) (omega arith) (omega (arith, ne))
-              ∙ h.high n (omega (arith, ne))
-              ∙ sym (elsewhere (to + n) (omega (arith, ne)) (omega arith)))
+          ∙ h.high n (omega (arith, ne))
+          ∙ sym (elsewhere (to + n) (omega (arith, ne)) (omega arith)))
           (cases_eq n k);
       others = λ m out. elim out [
         | inl before ↦ elsewhere m (omega arith) (omega arith) ∙ h.others m (inl before)

@@ -4,7 +4,7 @@ use Rattle.std.proofs.Common.{sym, ◌∙◌, inl, inr, arith, length-set, get_o
 use Rattle.std.proofs.Math.Path.{ap, fun_ext}
 use Rattle.std.proofs.Math.Logic.{⊎_elim}
 use Rattle.std.proofs.Math.Pow.{pow_mono}
-use Rattle.std.proofs.lemmas.Nat.{pow_pos}
+use Rattle.std.proofs.lemmas.Nat.{pow_pos, pow-add}
 use Rattle.std.proofs.lemmas.Bool.{cases_eq, cases_lt, lt-ltb, le-ltb, eq-eqb, ne_eqb}
 use Rattle.knowledge.specs.Sets.{has}
 use Rattle.knowledge.proofs.Bits.{has_and}
@@ -12,7 +12,7 @@ use Rattle.board.specs.Sheets.{State, Function, Sheets, with_sheet}
 use Rattle.board.specs.Requests.{Meaning}
 use Rattle.grid.specs.Layout.{at, index, sheet, meaning_of}
 use Rattle.grid.specs.Pieces.{live, Held, writing}
-use Rattle.grid.specs.Numbers.{pow-suc, index_lt}
+use Rattle.grid.specs.Numbers.{index_lt}
 use Rattle.grid.specs.Octets.{and_true, and_false}
 
 -- bit 8 k + t of a block is bit t of its byte k
@@ -24,8 +24,11 @@ at_byte xs i k t lt =
     rw (q, r)
 
 -- from width 3 on each byte is full
+eighth : (w : ℕ) → 3 ≤ w → 2 ^ w ≡ 2 ^ (w - 3) * 8
+eighth w wide = ap (λ (e : ℕ). 2 ^ e) (omega arith) ∙ pow-add 2 (w - 3) 3
+
 pub live_wide : (w : ℕ) → 3 ≤ w → live w ≡ 2 ^ (w - 3)
-live_wide w wide = ap (λ (b : Bool). cond b 1 (2 ^ (w - 3))) (le-ltb w 3 wide)
+live_wide w wide = let e = eighth w wide in omega arith
 
 -- a width's states take a part of one byte, or whole bytes
 pub live_size : (w : ℕ) → ((live w ≡ 1) × (2 ^ w < 8)) ⊎ ((live w * 8 ≡ 2 ^ w) × (8 ≤ 2 ^ w))
@@ -33,9 +36,8 @@ live_size zero = inl (refl, omega arith)
 live_size (suc zero) = inl (refl, omega arith)
 live_size (suc (suc zero)) = inl (refl, omega arith)
 live_size (suc (suc (suc w))) =
-    let wide : live (suc (suc (suc w))) ≡ 2 ^ w = live_wide (suc (suc (suc w))) (omega arith) ∙ ap (λ (n : ℕ). 2 ^ n) (omega arith) in
-    let big : 2 ^ suc (suc (suc w)) ≡ 2 ^ w * 8 = omega (arith, pow-suc w, pow-suc (suc w), pow-suc (suc (suc w))) in
-    inr (omega arith, omega (arith, pow_pos w))
+    let e = eighth (suc (suc (suc w))) (omega arith) in
+    inr (omega arith, omega (arith, pow_pos (suc (suc (suc w)) - 3)))
 
 -- byte k of block d
 abbrev pub block : List ℕ → ℕ → ℕ → ℕ

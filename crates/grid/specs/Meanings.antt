@@ -92,7 +92,8 @@ module _ (xs : List ℕ) (w a byte : ℕ) (v : Bool)
   all_answer ys true part size small found =
       ((λ yes. all_say (λ k lt. sym (part k lt) ∙ found k 0 (omega arith) (omega arith))), (λ says. refl))
   all_answer ys false part size small (k, lt, other) =
-      let is = part k (omega arith) in
-      ((λ yes. absurd (false≢true yes)),
-      (λ says. absurd ((other 0).0 (byte_ext (slice_index ys k) byte (other 0).1 small
-          (λ t tl. ap (λ (x : ℕ). has x t) is ∙ say_all says k t (omega arith) tl)))))
+      let is = part k (omega arith) in (
+        (λ yes. absurd (false≢true yes)),
+        (λ says. absurd ((other 0).0 (byte_ext (slice_index ys k) byte (other 0).1 small
+            (λ t tl. ap (λ (x : ℕ). has x t) is ∙ say_all says k t (omega arith) tl)))),
+      )

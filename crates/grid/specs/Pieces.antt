@@ -1,5 +1,6 @@
 -- What the work on single bytes and on blocks means.
-use Rattle.std.specs.Prelude.{◌≡◌, ℕ, zero, suc, ◌+◌, ◌-◌, ◌*◌, ◌/◌, ◌%◌, ◌^◌, ◌<◌, ◌≤◌, Bool, true, false, cond, ◌⊎◌, List, length, nat_lt, slice_index}
+use Rattle.std.specs.Prelude.{◌≡◌, ℕ, zero, suc, ◌+◌, ◌*◌, ◌/◌, ◌%◌, ◌^◌, ◌<◌, ◌≤◌, Bool, true, false, cond, ◌⊎◌, List, length, slice_index}
+use Rattle.std.specs.Int.{div_ceil}
 use Rattle.knowledge.specs.Sets.{has}
 use Rattle.board.specs.Sheets.{Function, with_place, with_sheet}
 use Rattle.board.specs.Requests.{Meaning}
@@ -8,7 +9,7 @@ use Rattle.grid.specs.Layout.{sheet, Clean}
 
 -- how many bytes the states of a width take
 abbrev pub live : ℕ → ℕ
-live w = cond (nat_lt w 3) 1 (2 ^ (w - 3))
+live w = div_ceil (2 ^ w) 8
 
 -- the number with bit p set to v
 unfoldable pub placed : ℕ → ℕ → Bool → ℕ

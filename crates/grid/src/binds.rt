@@ -6,7 +6,7 @@ ghost use Rattle.grid.specs.Grids.{Rewrote, Wrote};
 
 use crate::Grid;
 use crate::blocks::BLOCK;
-use crate::bytes::{live_bytes, settle_byte, stride_of};
+use crate::bytes::{BYTE_PLACES, live_bytes, settle_byte, stride_of};
 use board::request::Quantifier;
 
 impl Grid {
@@ -49,8 +49,8 @@ impl Grid {
         ensures { (op : Bool → Bool → Bool) → Bitwise (F.post step) op
             → Rewrote self.old sheet (bound self.old.bytes.items self.old.width from place op) self.new }
     {
-        if place < 3 {
-            self.combine(sheet, from, from, |byte, _| {
+        if place < BYTE_PLACES {
+            self.combine(sheet, from, from, move |byte, _| {
                 step(
                     settle_byte(byte, place, false),
                     settle_byte(byte, place, true),

@@ -45,7 +45,12 @@ impl Grid {
         ensures { Wrote self.old (Join sheet left right code) self.new }
     {
         let cases = Cases::of(code);
-        self.combine(sheet, left, right, |left, right| join_byte(cases, left, right));
+        self.combine(
+            sheet,
+            left,
+            right,
+            move |left, right| join_byte(cases, left, right),
+        );
     }
 
     // Turns every value of the sheet round.
@@ -58,7 +63,13 @@ impl Grid {
 
     // Puts what the step gives for each two live bytes of the left and the right sheet into the sheet.
     // An index, and no slices: the sheet may be the left or the right one, and would overlap it.
-    pub(crate) fn combine<F: Fn(u8, u8) -> u8>(&mut self, sheet: usize, left: usize, right: usize, step: F)
+    pub(crate) fn combine<F: Fn(u8, u8) -> u8>(
+        &mut self,
+        sheet: usize,
+        left: usize,
+        right: usize,
+        step: F,
+    )
         requires sheets { (sheet < 64) × ((left < 64) × (right < 64)) }
         requires callable { F.IsAlwaysCallable step }
         ensures { (f : ℕ → Bool) → Combines (F.post step) self.old left right f

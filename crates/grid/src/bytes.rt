@@ -4,6 +4,9 @@ ghost use Rattle.knowledge.specs.Sets.{has};
 ghost use Rattle.board.specs.Requests.{joined};
 ghost use Rattle.grid.specs.Pieces.{live, placed, whole_byte, cases_of};
 
+// A byte holds the states of this many places: a place below it is a pattern in each byte, one past it a bit of the byte's number.
+pub(crate) const BYTE_PLACES: usize = 3;
+
 // What a join's code says of each pair of values: 255 for yes, 0 for no.
 #[derive(Clone, Copy)]
 pub(crate) struct Cases {
@@ -48,7 +51,7 @@ pub(crate) fn live_bytes(width: usize) -> usize
     ensures value { result ≡ live width }
     ensures small { result ≤ 512 }
 {
-    if width < 3 { 1 } else { 1 << (width - 3) }
+    (1usize << width).div_ceil(8)
 }
 
 // How far apart two bytes are that differ in a place past the first three.
@@ -58,7 +61,7 @@ pub(crate) fn stride_of(place: usize) -> usize
     ensures some { 1 ≤ result }
     ensures small { result ≤ 256 }
 {
-    1 << (place - 3)
+    1 << (place - BYTE_PLACES)
 }
 
 // The bits of a byte that stand for states of a width.
@@ -94,28 +97,15 @@ pub(crate) fn join_byte(cases: Cases, left: u8, right: u8) -> u8
 pub(crate) fn settle_byte(byte: u8, place: usize, value: bool) -> u8
     ensures { (t : ℕ) → place < 3 → t < 8 → has result t ≡ has byte (placed place t value) }
 {
-    match place {
-        0 => {
-            let clear = lowered(byte, 1, value) & 0b0101_0101;
-            clear | clear << 1
-        }
-        1 => {
-            let clear = lowered(byte, 2, value) & 0b0011_0011;
-            clear | clear << 2
-        }
-        _ => {
-            let clear = lowered(byte, 4, value) & 0b0000_1111;
-            clear | clear << 4
-        }
-    }
-}
-
-// The byte shifted right, or as it is.
-fn lowered(byte: u8, by: u8, down: bool) -> u8
-    requires { by < 8 }
-    ensures { result ≡ (if down then byte / 2 ^ by else byte) }
-{
-    if down { byte >> by } else { byte }
+    // The states with the place clear, and how far above each stands the one with it set.
+    let (clear_states, apart) = match place {
+        0 => (0b0101_0101, 1u8),
+        1 => (0b0011_0011, 2),
+        _ => (0b0000_1111, 4),
+    };
+    let lowered = if value { byte >> apart } else { byte };
+    let clear = lowered & clear_states;
+    clear | clear << apart
 }
 
 // The value of a place at the eight states of byte k of a block.
@@ -127,6 +117,6 @@ pub(crate) fn atom_byte(place: usize, k: usize) -> u8
         0 => 0b1010_1010,
         1 => 0b1100_1100,
         2 => 0b1111_0000,
-        _ => whole_byte((k >> (place - 3)) % 2 == 1),
+        _ => whole_byte((k >> (place - BYTE_PLACES)) % 2 == 1),
     }
 }

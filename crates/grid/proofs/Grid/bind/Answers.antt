@@ -6,8 +6,8 @@ use Rattle.grid.proofs.Turns.{bound_at, bound_says, settled_bit}
 use Rattle.grid.proofs.Replaced.{in_words}
 use Rattle.grid.proofs.Grid.bind.Goals as goal
 
-pub returns-then-place-lt3 : goal.returns-then-place-lt3
-returns-then-place-lt3 g c op bits =
+pub returns-then-place-lt-BYTE_PLACES : goal.returns-then-place-lt-BYTE_PLACES
+returns-then-place-lt-BYTE_PLACES g c op bits =
     let xs = c.args.self.now.bytes.items in let a = c.args.from in let p = c.args.place in
     let low : c.args.place < 3 = omega arith in
     in_words c.args.self.now c.args.sheet _ c.combine.new.self
