@@ -7,20 +7,20 @@ ghost use Rattle.grid.specs.Grids.{Rewrote, Wrote};
 use crate::Grid;
 use crate::blocks::BLOCK;
 use crate::bytes::{BYTE_PLACES, live_bytes, settle_byte, stride_of};
+use crate::sheet::Sheet;
 use board::request::Quantifier;
 
 impl Grid {
     // Puts what another sheet says for both values of the place, or for at least one, into the sheet.
     pub(crate) fn quantify_sheet(
         &mut self,
-        sheet: usize,
-        from: usize,
+        sheet: Sheet,
+        from: Sheet,
         place: usize,
         quantifier: Quantifier,
     )
-        requires sheets { (sheet < 64) × (from < 64) }
-        requires places { place < self.old.width }
-        ensures { Wrote self.old (Quantify sheet from place quantifier) self.new }
+        requires { place < self.old.width }
+        ensures { Wrote self.old (Quantify sheet.number from.number place quantifier) self.new }
     {
         match quantifier {
             Quantifier::ForAll => self.bind(sheet, from, place, |clear, set| clear & set),
@@ -29,10 +29,9 @@ impl Grid {
     }
 
     // Puts what another sheet says with the place set to the value into the sheet.
-    pub(crate) fn fix_sheet(&mut self, sheet: usize, from: usize, place: usize, value: bool)
-        requires sheets { (sheet < 64) × (from < 64) }
-        requires places { place < self.old.width }
-        ensures { Wrote self.old (Fix sheet from place value) self.new }
+    pub(crate) fn fix_sheet(&mut self, sheet: Sheet, from: Sheet, place: usize, value: bool)
+        requires { place < self.old.width }
+        ensures { Wrote self.old (Fix sheet.number from.number place value) self.new }
     {
         if value {
             self.bind(sheet, from, place, |_, set| set);
@@ -42,12 +41,11 @@ impl Grid {
     }
 
     // Puts what the step gives for what another sheet says with the place clear and with it set into the sheet.
-    fn bind<F: Fn(u8, u8) -> u8>(&mut self, sheet: usize, from: usize, place: usize, step: F)
-        requires sheets { (sheet < 64) × (from < 64) }
+    fn bind<F: Fn(u8, u8) -> u8>(&mut self, sheet: Sheet, from: Sheet, place: usize, step: F)
         requires places { place < self.old.width }
         requires callable { F.IsAlwaysCallable step }
         ensures { (op : Bool → Bool → Bool) → Bitwise (F.post step) op
-            → Rewrote self.old sheet (bound self.old.bytes.items self.old.width from place op) self.new }
+            → Rewrote self.old sheet.number (bound self.old.bytes.items self.old.width from.number place op) self.new }
     {
         if place < BYTE_PLACES {
             self.combine(sheet, from, from, move |byte, _| {
@@ -63,12 +61,11 @@ impl Grid {
 
     // The same for a place whose two values stand in two bytes, a stride apart: a row has a stride of bytes with the place clear,
     // then as many with the place set.
-    fn bind_rows<F: Fn(u8, u8) -> u8>(&mut self, sheet: usize, from: usize, place: usize, step: F)
-        requires sheets { (sheet < 64) × (from < 64) }
+    fn bind_rows<F: Fn(u8, u8) -> u8>(&mut self, sheet: Sheet, from: Sheet, place: usize, step: F)
         requires places { (place < self.old.width) × (3 ≤ place) }
         requires callable { F.IsAlwaysCallable step }
         ensures { (op : Bool → Bool → Bool) → Bitwise (F.post step) op
-            → Rewrote self.old sheet (bound self.old.bytes.items self.old.width from place op) self.new }
+            → Rewrote self.old sheet.number (bound self.old.bytes.items self.old.width from.number place op) self.new }
     {
         let stride = stride_of(place);
         let rows = live_bytes(self.width) / (2 * stride);
@@ -77,8 +74,8 @@ impl Grid {
             let start = 2 * stride * row;
             bind_row(
                 bytes,
-                BLOCK * sheet + start,
-                BLOCK * from + start,
+                BLOCK * sheet.number + start,
+                BLOCK * from.number + start,
                 stride,
                 &step,
             );

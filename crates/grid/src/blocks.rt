@@ -9,6 +9,7 @@ ghost use Rattle.grid.specs.Grids.{meaning, Combines, Rewrote, Wrote};
 
 use crate::Grid;
 use crate::bytes::{Cases, atom_byte, bit, blank_byte, join_byte, live_bits, live_bytes};
+use crate::sheet::Sheet;
 use std::ops::Range;
 
 // How many bytes a sheet has.
@@ -16,9 +17,8 @@ pub(crate) const BLOCK: usize = 512;
 
 impl Grid {
     // Puts the value at every state of the sheet.
-    pub(crate) fn blank_sheet(&mut self, sheet: usize, value: bool)
-        requires { sheet < 64 }
-        ensures { Wrote self.old (Blank sheet value) self.new }
+    pub(crate) fn blank_sheet(&mut self, sheet: Sheet, value: bool)
+        ensures { Wrote self.old (Blank sheet.number value) self.new }
     {
         let live = self.live(sheet);
         let byte = blank_byte(self.width, value);
@@ -26,10 +26,9 @@ impl Grid {
     }
 
     // Puts the value of the place into the sheet.
-    pub(crate) fn atom_sheet(&mut self, sheet: usize, place: usize)
-        requires sheets { sheet < 64 }
-        requires places { place < self.old.width }
-        ensures { Wrote self.old (Atom sheet place) self.new }
+    pub(crate) fn atom_sheet(&mut self, sheet: Sheet, place: usize)
+        requires { place < self.old.width }
+        ensures { Wrote self.old (Atom sheet.number place) self.new }
     {
         let live = self.live(sheet);
         let mask = live_bits(self.width);
@@ -40,9 +39,8 @@ impl Grid {
     }
 
     // Puts bit 2 × (left's value) + (right's value) of the code into the sheet.
-    pub(crate) fn join_sheet(&mut self, sheet: usize, left: usize, right: usize, code: u8)
-        requires { (sheet < 64) × ((left < 64) × (right < 64)) }
-        ensures { Wrote self.old (Join sheet left right code) self.new }
+    pub(crate) fn join_sheet(&mut self, sheet: Sheet, left: Sheet, right: Sheet, code: u8)
+        ensures { Wrote self.old (Join sheet.number left.number right.number code) self.new }
     {
         let cases = Cases::of(code);
         self.combine(
@@ -54,9 +52,8 @@ impl Grid {
     }
 
     // Turns every value of the sheet round.
-    pub(crate) fn flip_sheet(&mut self, sheet: usize)
-        requires { sheet < 64 }
-        ensures { Wrote self.old (Flip sheet) self.new }
+    pub(crate) fn flip_sheet(&mut self, sheet: Sheet)
+        ensures { Wrote self.old (Flip sheet.number) self.new }
     {
         self.combine(sheet, sheet, sheet, |byte, _| !byte);
     }
@@ -65,38 +62,41 @@ impl Grid {
     // An index, and no slices: the sheet may be the left or the right one, and would overlap it.
     pub(crate) fn combine<F: Fn(u8, u8) -> u8>(
         &mut self,
-        sheet: usize,
-        left: usize,
-        right: usize,
+        sheet: Sheet,
+        left: Sheet,
+        right: Sheet,
         step: F,
     )
-        requires sheets { (sheet < 64) × ((left < 64) × (right < 64)) }
-        requires callable { F.IsAlwaysCallable step }
-        ensures { (f : ℕ → Bool) → Combines (F.post step) self.old left right f
-            → Rewrote self.old sheet (λ s. f (index self.old.width s)) self.new }
+        requires { F.IsAlwaysCallable step }
+        ensures { (f : ℕ → Bool) → Combines (F.post step) self.old left.number right.number f
+            → Rewrote self.old sheet.number (λ s. f (index self.old.width s)) self.new }
     {
         let mask = live_bits(self.width);
         let live = live_bytes(self.width);
         let bytes = self.bytes.as_mut_slice();
         for k in 0..live {
-            let byte = step(bytes[BLOCK * left + k], bytes[BLOCK * right + k]);
-            bytes[BLOCK * sheet + k] = byte & mask;
+            let byte = step(
+                bytes[BLOCK * left.number + k],
+                bytes[BLOCK * right.number + k],
+            );
+            bytes[BLOCK * sheet.number + k] = byte & mask;
         }
     }
 
     // What the sheet says at the state of a number.
-    pub(crate) fn read_sheet(&self, sheet: usize, state: u64) -> bool
-        requires { sheet < 64 }
-        ensures { At state ((meaning self.now).sheets sheet) result }
+    pub(crate) fn read_sheet(&self, sheet: Sheet, state: u64) -> bool
+        ensures { At state ((meaning self.now).sheets sheet.number) result }
     {
         let number = (state % (1 << self.width)) as usize;
-        bit(self.bytes[BLOCK * sheet + number / 8], (number % 8) as u8)
+        bit(
+            self.bytes[BLOCK * sheet.number + number / 8],
+            (number % 8) as u8,
+        )
     }
 
     // Whether the sheet says the value at every state.
-    pub(crate) fn all_sheet(&self, sheet: usize, value: bool) -> bool
-        requires { sheet < 64 }
-        ensures { Everywhere value ((meaning self.now).sheets sheet) result }
+    pub(crate) fn all_sheet(&self, sheet: Sheet, value: bool) -> bool
+        ensures { Everywhere value ((meaning self.now).sheets sheet.number) result }
     {
         let live = self.live(sheet);
         let wanted = blank_byte(self.width, value);
@@ -105,13 +105,12 @@ impl Grid {
     }
 
     // Where the sheet's live bytes lie.
-    fn live(&self, sheet: usize) -> Range<usize>
-        requires { sheet < 64 }
-        ensures start { result.start ≡ 512 * sheet }
-        ensures end { result.end ≡ 512 * sheet + live self.now.width }
+    fn live(&self, sheet: Sheet) -> Range<usize>
+        ensures start { result.start ≡ 512 * sheet.number }
+        ensures end { result.end ≡ 512 * sheet.number + live self.now.width }
         ensures inside { (result.start ≤ result.end) × (result.end ≤ 32768) }
     {
-        let start = BLOCK * sheet;
+        let start = BLOCK * sheet.number;
         start..start + live_bytes(self.width)
     }
 }

@@ -3,6 +3,7 @@ ghost use Rattle.grid.specs.Layout.{meaning_of};
 ghost use Rattle.grid.specs.Meanings;
 
 use crate::Grid;
+use crate::sheet::Sheet;
 use board::Board;
 use board::request::{Quantifier, Request, check_sheet};
 use knowledge::fault::Fault;
@@ -17,13 +18,13 @@ impl Board for Grid {
 
     fn blank(&mut self, sheet: usize, value: bool) -> Result<(), Fault> {
         Request::Blank { sheet, value }.check(self.width)?;
-        self.blank_sheet(sheet, value);
+        self.blank_sheet(Sheet { number: sheet }, value);
         Ok(())
     }
 
     fn atom(&mut self, sheet: usize, place: usize) -> Result<(), Fault> {
         Request::Atom { sheet, place }.check(self.width)?;
-        self.atom_sheet(sheet, place);
+        self.atom_sheet(Sheet { number: sheet }, place);
         Ok(())
     }
 
@@ -35,13 +36,18 @@ impl Board for Grid {
             code,
         }
         .check(self.width)?;
-        self.join_sheet(sheet, left, right, code);
+        self.join_sheet(
+            Sheet { number: sheet },
+            Sheet { number: left },
+            Sheet { number: right },
+            code,
+        );
         Ok(())
     }
 
     fn flip(&mut self, sheet: usize) -> Result<(), Fault> {
         Request::Flip { sheet }.check(self.width)?;
-        self.flip_sheet(sheet);
+        self.flip_sheet(Sheet { number: sheet });
         Ok(())
     }
 
@@ -59,7 +65,12 @@ impl Board for Grid {
             quantifier,
         }
         .check(self.width)?;
-        self.quantify_sheet(sheet, from, place, quantifier);
+        self.quantify_sheet(
+            Sheet { number: sheet },
+            Sheet { number: from },
+            place,
+            quantifier,
+        );
         Ok(())
     }
 
@@ -71,18 +82,23 @@ impl Board for Grid {
             value,
         }
         .check(self.width)?;
-        self.fix_sheet(sheet, from, place, value);
+        self.fix_sheet(
+            Sheet { number: sheet },
+            Sheet { number: from },
+            place,
+            value,
+        );
         Ok(())
     }
 
     fn read(&self, sheet: usize, state: u64) -> Result<bool, Fault> {
         check_sheet(sheet)?;
-        Ok(self.read_sheet(sheet, state))
+        Ok(self.read_sheet(Sheet { number: sheet }, state))
     }
 
     fn all(&self, sheet: usize, value: bool) -> Result<bool, Fault> {
         check_sheet(sheet)?;
-        Ok(self.all_sheet(sheet, value))
+        Ok(self.all_sheet(Sheet { number: sheet }, value))
     }
 
     fn width(&self) -> usize {

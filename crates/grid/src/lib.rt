@@ -5,6 +5,7 @@ mod binds;
 mod blocks;
 mod bytes;
 pub mod calls;
+mod sheet;
 
 ghost use Rattle.std.specs.Prelude.{◌≡◌, ℕ, ◌≤◌, length, Ok, Err, slice_index};
 ghost use Rattle.knowledge.specs.declared.fault.Cause.TheVariants.{Table};

@@ -33,19 +33,19 @@ module _ (c : After-loop-k) where
 pub invariant_of-self-clause-whole : goal.invariant_of-self-clause-whole
 invariant_of-self-clause-whole c =
     let b = (goal.at.invariant_of-self-clause-whole c).After-loop-k in
-    (part_held c.args.self.now c.loop-k.bytes c.args.sheet c.live-live.result.start (n b) (whole b) c.live-live.ensures.start
-    (omega arith) c.requires.sheets (bare b) c.deref_mut.ensures.value).size
+    (part_held c.args.self.now c.loop-k.bytes c.args.sheet.number c.live-live.result.start (n b) (whole b) c.live-live.ensures.start
+    (omega arith) c.args.sheet.known (bare b) c.deref_mut.ensures.value).size
 
 pub invariant_of-self-clause-clean : goal.invariant_of-self-clause-clean
 invariant_of-self-clause-clean c =
     let b = (goal.at.invariant_of-self-clause-clean c).After-loop-k in
-    (part_held c.args.self.now c.loop-k.bytes c.args.sheet c.live-live.result.start (n b) (whole b) c.live-live.ensures.start
-    (omega arith) c.requires.sheets (bare b) c.deref_mut.ensures.value).clean
+    (part_held c.args.self.now c.loop-k.bytes c.args.sheet.number c.live-live.result.start (n b) (whole b) c.live-live.ensures.start
+    (omega arith) c.args.sheet.known (bare b) c.deref_mut.ensures.value).clean
 
 pub returns : goal.returns
 returns c =
     let b = (goal.at.returns c).After-loop-k in
-    part_means c.args.self.now c.loop-k.bytes c.args.sheet c.live-live.result.start (n b) (whole b) c.live-live.ensures.start
-    (omega arith) c.requires.sheets (bare b) c.deref_mut.ensures.value (λ j. has j c.args.place) _
+    part_means c.args.self.now c.loop-k.bytes c.args.sheet.number c.live-live.result.start (n b) (whole b) c.live-live.ensures.start
+    (omega arith) c.args.sheet.known (bare b) c.deref_mut.ensures.value (λ j. has j c.args.place) _
     (λ k t lt tl seen. c.loop-k.invariant.says k t (omega arith) tl seen)
-    (λ s. has_index c.args.self.now.width c.args.place s c.requires.places)
+    (λ s. has_index c.args.self.now.width c.args.place s c.requires)

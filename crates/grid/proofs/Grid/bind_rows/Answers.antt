@@ -12,7 +12,7 @@ pub loop-row-preserved : goal.loop-row-preserved
 loop-row-preserved g c =
     let front = c.loop-row.invariant.front in let stride = c.stride_of-stride.result in let row = c.loop-row.row in
     let xs = vec_items c.args.self.now.bytes in let ys = c.loop-row.bytes in let zs = c.bind_row.new.bytes in
-    let w = c.args.self.now.width in let d = c.args.sheet in let a = c.args.from in
+    let w = c.args.self.now.width in let d = c.args.sheet.number in let a = c.args.from.number in
     let room = row_room c.live_bytes.result (2 * stride) row (omega arith) in
     let past : 3 ≤ c.args.self.now.width = omega arith in
     let wide : 8 ≤ 2 ^ c.args.self.now.width = pow_mono past in
@@ -42,5 +42,5 @@ invariant_of-self-clause-clean g c =
 
 pub returns : goal.returns
 returns g c op bits =
-    means_after c.args.self.now c.loop-row.invariant.front (all g (goal.at.returns g c).After-loop-row) (bound_at (vec_items c.args.self.now.bytes) c.args.from c.args.place op) _ (c.loop-row.invariant.says op bits)
-    (bound_says (vec_items c.args.self.now.bytes) c.args.self.now.width c.args.from c.args.place op c.requires.places.0)
+    means_after c.args.self.now c.loop-row.invariant.front (all g (goal.at.returns g c).After-loop-row) (bound_at (vec_items c.args.self.now.bytes) c.args.from.number c.args.place op) _ (c.loop-row.invariant.says op bits)
+    (bound_says (vec_items c.args.self.now.bytes) c.args.self.now.width c.args.from.number c.args.place op c.requires.places.0)

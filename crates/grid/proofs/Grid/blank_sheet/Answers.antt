@@ -21,19 +21,19 @@ module _ (c : After-fill) where
 pub invariant_of-self-clause-whole : goal.invariant_of-self-clause-whole
 invariant_of-self-clause-whole c =
     let b = (goal.at.invariant_of-self-clause-whole c).After-fill in
-    (part_held c.args.self.now c.fill.new.self c.args.sheet c.live-live.result.start (n b) (whole b) c.live-live.ensures.start
-    (omega arith) c.requires (bare b) c.deref_mut.ensures.value).size
+    (part_held c.args.self.now c.fill.new.self c.args.sheet.number c.live-live.result.start (n b) (whole b) c.live-live.ensures.start
+    (omega arith) c.args.sheet.known (bare b) c.deref_mut.ensures.value).size
 
 pub invariant_of-self-clause-clean : goal.invariant_of-self-clause-clean
 invariant_of-self-clause-clean c =
     let b = (goal.at.invariant_of-self-clause-clean c).After-fill in
-    (part_held c.args.self.now c.fill.new.self c.args.sheet c.live-live.result.start (n b) (whole b) c.live-live.ensures.start
-    (omega arith) c.requires (bare b) c.deref_mut.ensures.value).clean
+    (part_held c.args.self.now c.fill.new.self c.args.sheet.number c.live-live.result.start (n b) (whole b) c.live-live.ensures.start
+    (omega arith) c.args.sheet.known (bare b) c.deref_mut.ensures.value).clean
 
 pub returns : goal.returns
 returns c =
     let b = (goal.at.returns c).After-fill in
-    part_means c.args.self.now c.fill.new.self c.args.sheet c.live-live.result.start (n b) (whole b) c.live-live.ensures.start
-    (omega arith) c.requires (bare b) c.deref_mut.ensures.value (λ _. c.args.value) _
+    part_means c.args.self.now c.fill.new.self c.args.sheet.number c.live-live.result.start (n b) (whole b) c.live-live.ensures.start
+    (omega arith) c.args.sheet.known (bare b) c.deref_mut.ensures.value (λ _. c.args.value) _
     (λ k t lt tl seen. filled b k t lt ∙ at_state _ c.args.self.now.width t (c.blank_byte-byte.ensures t tl) seen)
     (λ s. refl)

@@ -11,10 +11,10 @@ loop-k-preserved g c =
     let bits : (t : ℕ) → t < 8 → has (bit_and c.step-byte.result c.live_bits-mask.result) t ≡ (has c.step-byte.result t && nat_lt t (2 ^ c.args.self.now.width)) =
     λ t lt. masked byte mask w t (c.live_bits-mask.ensures t lt) in
     record {
-      front = next front (bit_and byte mask) c.requires.sheets.0 (omega arith) (λ t lt out. past_states _ w t (bits t lt) out);
-      says = λ f gives. says_next front (bit_and byte mask) c.requires.sheets.0 (omega arith) f (c.loop-k.invariant.says f gives)
+      front = next front (bit_and byte mask) c.args.sheet.known (omega arith) (λ t lt out. past_states _ w t (bits t lt) out);
+      says = λ f gives. says_next front (bit_and byte mask) c.args.sheet.known (omega arith) f (c.loop-k.invariant.says f gives)
           (λ t lt seen. at_state _ w t (bits t lt) seen ∙ gives k t byte (omega arith) lt
-          (rw (old_byte front c.args.left k (omega arith) (omega arith), old_byte front c.args.right k (omega arith) (omega arith)) at c.step-byte.ensures));
+          (rw (old_byte front c.args.left.number k (omega arith) (omega arith), old_byte front c.args.right.number k (omega arith) (omega arith)) at c.step-byte.ensures));
     }
 
 pub invariant_of-self-clause-whole : goal.invariant_of-self-clause-whole

@@ -6,7 +6,7 @@ use Rattle.grid.proofs.Grid.flip_sheet.Goals as goal
 
 pub returns : goal.returns
 returns c =
-    let xs = c.args.self.now.bytes.items in let a = c.args.sheet in
+    let xs = c.args.self.now.bytes.items in let a = c.args.sheet.number in
     c.combine.ensures (λ j. not (at xs a j)) (λ k t r lt tl gives.
     let is : r ≡ 255 - block xs a k = search rules in
     let small : block xs a k < 256 = search rules in

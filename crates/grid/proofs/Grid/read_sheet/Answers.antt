@@ -24,4 +24,4 @@ returns c =
     let is = (number c.args.state c.args.self.now.width c.args.self.now.narrow).0 in
     c.bit.ensures
     ∙ ap (λ (x : ℕ). has x (c.args.state % (1 * 2 ^ c.args.self.now.width % 18446744073709551616) % 8)) (get_or_read c.args.self.now.bytes.items _ c.index.result.now (omega arith) c.index.ensures 0)
-    ∙ read_at c.args.self.now.bytes.items c.args.self.now.width c.args.sheet c.args.state _ is
+    ∙ read_at c.args.self.now.bytes.items c.args.self.now.width c.args.sheet.number c.args.state _ is
