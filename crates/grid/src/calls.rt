@@ -18,13 +18,13 @@ impl Board for Grid {
 
     fn blank(&mut self, sheet: usize, value: bool) -> Result<(), Fault> {
         Request::Blank { sheet, value }.check(self.width)?;
-        self.blank_sheet(Sheet { number: sheet }, value);
+        self.blank_sheet(Sheet::of(sheet), value);
         Ok(())
     }
 
     fn atom(&mut self, sheet: usize, place: usize) -> Result<(), Fault> {
         Request::Atom { sheet, place }.check(self.width)?;
-        self.atom_sheet(Sheet { number: sheet }, place);
+        self.atom_sheet(Sheet::of(sheet), place);
         Ok(())
     }
 
@@ -36,18 +36,13 @@ impl Board for Grid {
             code,
         }
         .check(self.width)?;
-        self.join_sheet(
-            Sheet { number: sheet },
-            Sheet { number: left },
-            Sheet { number: right },
-            code,
-        );
+        self.join_sheet(Sheet::of(sheet), Sheet::of(left), Sheet::of(right), code);
         Ok(())
     }
 
     fn flip(&mut self, sheet: usize) -> Result<(), Fault> {
         Request::Flip { sheet }.check(self.width)?;
-        self.flip_sheet(Sheet { number: sheet });
+        self.flip_sheet(Sheet::of(sheet));
         Ok(())
     }
 
@@ -65,12 +60,7 @@ impl Board for Grid {
             quantifier,
         }
         .check(self.width)?;
-        self.quantify_sheet(
-            Sheet { number: sheet },
-            Sheet { number: from },
-            place,
-            quantifier,
-        );
+        self.quantify_sheet(Sheet::of(sheet), Sheet::of(from), place, quantifier);
         Ok(())
     }
 
@@ -82,23 +72,18 @@ impl Board for Grid {
             value,
         }
         .check(self.width)?;
-        self.fix_sheet(
-            Sheet { number: sheet },
-            Sheet { number: from },
-            place,
-            value,
-        );
+        self.fix_sheet(Sheet::of(sheet), Sheet::of(from), place, value);
         Ok(())
     }
 
     fn read(&self, sheet: usize, state: u64) -> Result<bool, Fault> {
         check_sheet(sheet)?;
-        Ok(self.read_sheet(Sheet { number: sheet }, state))
+        Ok(self.read_sheet(Sheet::of(sheet), state))
     }
 
     fn all(&self, sheet: usize, value: bool) -> Result<bool, Fault> {
         check_sheet(sheet)?;
-        Ok(self.all_sheet(Sheet { number: sheet }, value))
+        Ok(self.all_sheet(Sheet::of(sheet), value))
     }
 
     fn width(&self) -> usize {

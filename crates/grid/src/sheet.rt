@@ -1,9 +1,19 @@
 // The sheets of a grid.
-ghost use Rattle.std.specs.Prelude.{◌<◌};
+ghost use Rattle.std.specs.Prelude.{◌≡◌, ◌<◌};
 
 // A sheet that is one of the 64.
 #[derive(Clone, Copy, PartialEq, Eq, Debug)]
 pub(crate) struct Sheet {
     pub(crate) number: usize,
     ghost known: { number < 64 },
+}
+
+impl Sheet {
+    // The sheet of a number that was checked.
+    pub(crate) fn of(number: usize) -> Sheet
+        requires { number < 64 }
+        ensures { result.number ≡ number }
+    {
+        Sheet { number }
+    }
 }
