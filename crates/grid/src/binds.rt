@@ -62,7 +62,7 @@ impl Grid {
     // The same for a place whose two values stand in two bytes, a stride apart: a row has a stride of bytes with the place clear,
     // then as many with the place set.
     fn bind_rows<F: Fn(u8, u8) -> u8>(&mut self, sheet: Sheet, from: Sheet, place: usize, step: F)
-        requires places { (place < self.old.width) × (3 ≤ place) }
+        requires places { (place < self.old.width) × (BYTE_PLACES ≤ place) }
         requires callable { F.IsAlwaysCallable step }
         ensures { (op : Bool → Bool → Bool) → Bitwise (F.post step) op
             → Rewrote self.old sheet.number (bound self.old.bytes.items self.old.width from.number place op) self.new }

@@ -7,9 +7,9 @@ ghost use Rattle.grid.specs.Layout.{index, meaning_of};
 ghost use Rattle.grid.specs.Pieces.{live};
 ghost use Rattle.grid.specs.Grids.{meaning, Combines, Rewrote, Wrote};
 
-use crate::Grid;
-use crate::bytes::{Cases, atom_byte, bit, blank_byte, join_byte, live_bits, live_bytes};
+use crate::bytes::{BYTE_STATES, Cases, atom_byte, bit, blank_byte, live_bits, live_bytes};
 use crate::sheet::Sheet;
+use crate::{Grid, MEMORY};
 use std::ops::Range;
 
 // How many bytes a sheet has.
@@ -42,12 +42,12 @@ impl Grid {
     pub(crate) fn join_sheet(&mut self, sheet: Sheet, left: Sheet, right: Sheet, code: u8)
         ensures { Wrote self.old (Join sheet.number left.number right.number code) self.new }
     {
-        let cases = Cases::of(code);
+        let cases = Cases::from(code);
         self.combine(
             sheet,
             left,
             right,
-            move |left, right| join_byte(cases, left, right),
+            move |left, right| cases.join(left, right),
         );
     }
 
@@ -106,9 +106,9 @@ impl Grid {
 
     // Where the sheet's live bytes lie.
     fn live(&self, sheet: Sheet) -> Range<usize>
-        ensures start { result.start ≡ 512 * sheet.number }
-        ensures end { result.end ≡ 512 * sheet.number + live self.now.width }
-        ensures inside { (result.start ≤ result.end) × (result.end ≤ 32768) }
+        ensures start { result.start ≡ BLOCK * sheet.number }
+        ensures end { result.end ≡ BLOCK * sheet.number + live self.now.width }
+        ensures inside { (result.start ≤ result.end) × (result.end ≤ MEMORY) }
     {
         let start = BLOCK * sheet.number;
         start..start + live_bytes(self.width)

@@ -4,11 +4,17 @@ ghost use Rattle.knowledge.specs.Sets.{has};
 ghost use Rattle.board.specs.Requests.{joined};
 ghost use Rattle.grid.specs.Pieces.{live, placed, whole_byte, cases_of};
 
-// A byte holds the states of this many places: a place below it is a pattern in each byte, one past it a bit of the byte's number.
+use crate::MOST_PLACES;
+use crate::blocks::BLOCK;
+
+// How many states a byte holds.
+pub(crate) const BYTE_STATES: usize = 8;
+
+// They are those of so many places: one below this is a pattern in each byte, one past it a bit of the byte's number.
 pub(crate) const BYTE_PLACES: usize = 3;
 
 // What a join's code says of each pair of values: 255 for yes, 0 for no.
-#[derive(Clone, Copy)]
+#[derive(Clone, Copy, PartialEq, Eq, Debug)]
 pub(crate) struct Cases {
     both: u8,
     left: u8,
@@ -16,17 +22,28 @@ pub(crate) struct Cases {
     neither: u8,
 }
 
-impl Cases {
-    // The cases of a code.
-    pub(crate) fn of(code: u8) -> Cases
-        ensures { result ≡ cases_of code }
-    {
+impl From<u8> for Cases {
+    ghost from_gives = { λ code cases. cases ≡ cases_of code };
+
+    fn from(code: u8) -> Cases {
         Cases {
             both: whole_byte(bit(code, 3)),
             left: whole_byte(bit(code, 2)),
             right: whole_byte(bit(code, 1)),
             neither: whole_byte(bit(code, 0)),
         }
+    }
+}
+
+impl Cases {
+    // What the cases say of the pair of bits at each of the eight states.
+    pub(crate) fn join(self, left: u8, right: u8) -> u8
+        ensures { (code t : ℕ) → self ≡ cases_of code → t < 8 → has result t ≡ joined code (has left t) (has right t) }
+    {
+        left & right & self.both
+            | left & !right & self.left
+            | !left & right & self.right
+            | !left & !right & self.neither
     }
 }
 
@@ -47,16 +64,16 @@ fn whole_byte(value: bool) -> u8
 
 // How many bytes the states of a width take.
 pub(crate) fn live_bytes(width: usize) -> usize
-    requires { width ≤ 12 }
+    requires { width ≤ MOST_PLACES }
     ensures value { result ≡ live width }
-    ensures small { result ≤ 512 }
+    ensures small { result ≤ BLOCK }
 {
-    (1usize << width).div_ceil(8)
+    (1usize << width).div_ceil(BYTE_STATES)
 }
 
 // How far apart two bytes are that differ in a place past the first three.
 pub(crate) fn stride_of(place: usize) -> usize
-    requires { (3 ≤ place) × (place < 12) }
+    requires { (BYTE_PLACES ≤ place) × (place < MOST_PLACES) }
     ensures value { result ≡ 2 ^ (place - 3) }
     ensures some { 1 ≤ result }
     ensures small { result ≤ 256 }
@@ -83,16 +100,6 @@ pub(crate) fn blank_byte(width: usize, value: bool) -> u8
     whole_byte(value) & live_bits(width)
 }
 
-// What the cases say of the pair of bits at each of the eight states.
-pub(crate) fn join_byte(cases: Cases, left: u8, right: u8) -> u8
-    ensures { (code t : ℕ) → cases ≡ cases_of code → t < 8 → has result t ≡ joined code (has left t) (has right t) }
-{
-    left & right & cases.both
-        | left & !right & cases.left
-        | !left & right & cases.right
-        | !left & !right & cases.neither
-}
-
 // The eight states with one of the first three places set to a value: each bit is that of the state which its own becomes.
 pub(crate) fn settle_byte(byte: u8, place: usize, value: bool) -> u8
     ensures { (t : ℕ) → place < 3 → t < 8 → has result t ≡ has byte (placed place t value) }
@@ -110,7 +117,7 @@ pub(crate) fn settle_byte(byte: u8, place: usize, value: bool) -> u8
 
 // The value of a place at the eight states of byte k of a block.
 pub(crate) fn atom_byte(place: usize, k: usize) -> u8
-    requires { place < 12 }
+    requires { place < MOST_PLACES }
     ensures { (t : ℕ) → t < 8 → has result t ≡ has (8 * k + t) place }
 {
     match place {

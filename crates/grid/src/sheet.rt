@@ -1,6 +1,8 @@
 // The sheets of a grid.
 ghost use Rattle.std.specs.Prelude.{◌≡◌, ◌<◌};
 
+use board::request::SHEETS;
+
 // A sheet that is one of the 64.
 #[derive(Clone, Copy, PartialEq, Eq, Debug)]
 pub(crate) struct Sheet {
@@ -11,7 +13,7 @@ pub(crate) struct Sheet {
 impl Sheet {
     // The sheet of a number that was checked.
     pub(crate) fn of(number: usize) -> Sheet
-        requires { number < 64 }
+        requires { number < SHEETS }
         ensures { result.number ≡ number }
     {
         Sheet { number }
