@@ -1,13 +1,75 @@
 -- Rows of two strides.
-use Rattle.std.proofs.Common.{◌≡◌, ℕ, suc, ◌+◌, ◌-◌, ◌*◌, ◌/◌, ◌^◌, ◌<◌, ◌≤◌, Bool, true, false, cond, ◌⊎◌, List, slice_index, sym, refl, ap, ◌∙◌, subst, inl, inr, ⊎_elim, mul_comm, arith}
+use Rattle.std.proofs.Common.{◌≡◌, ℕ, suc, ◌+◌, ◌-◌, ◌*◌, ◌/◌, ◌^◌, ◌<◌, ◌≤◌, Bool, true, false, cond, ◌⊎◌, List, length, slice_index, slice_set, sym, refl, ap, ◌∙◌, subst, inl, inr, ⊎_elim, mul_comm, arith, length-set, get_or-set_other, get_or-set_same}
 use Rattle.std.proofs.lemmas.Nat.{pow_pos, pow-add, mul-le, div-mul-add, div-add-mod'}
-use Rattle.std.proofs.lemmas.Bool.{cases_lt, cases_order}
+use Rattle.std.proofs.lemmas.Bool.{cases_eq, cases_lt, cases_order}
 use Rattle.knowledge.specs.Sets.{has}
 use Rattle.grid.specs.Layout.{at}
 use Rattle.grid.specs.Pieces.{live, placed, Apart, Bitwise, Paired}
 use Rattle.grid.specs.Fronts.{Front, Says, block, old_bit, live_wide}
 use Rattle.grid.specs.Numbers.{pow-suc, placed_past, placed_row}
 use Rattle.grid.proofs.Turns.{bound_at}
+
+-- a pair of a row that is read, and written in both halves of a row
+module _ {Gives : ℕ → ℕ → ℕ → Type 0} {xs ys : List ℕ} {to from stride k : ℕ}
+    (h : Paired Gives xs to from stride k ys) (apart : Apart to from (2 * stride)) (lt : k < stride) where
+  -- the next pair of the row that is read is as it was
+  next_low : slice_index ys (from + k) ≡ slice_index xs (from + k)
+  next_low = h.others (from + k) (elim apart [
+    | inl same ↦ inr (inl (omega arith, omega arith))
+    | inr (inl after) ↦ inr (inr (omega arith))
+    | inr (inr before) ↦ inl (omega arith)
+  ])
+
+  next_high : slice_index ys (from + stride + k) ≡ slice_index xs (from + stride + k)
+  next_high = h.others (from + stride + k) (elim apart [
+    | inl same ↦ inr (inr (omega arith))
+    | inr (inl after) ↦ inr (inr (omega arith))
+    | inr (inr before) ↦ inl (omega arith)
+  ])
+
+  module _ (byte : ℕ) (room : to + 2 * stride ≤ length xs) where
+    -- the bytes with the pair written
+    abbrev zs : List ℕ
+    zs = slice_set (slice_set ys (to + k) byte) (to + stride + k) byte
+
+    -- what they hold elsewhere, and at the two places
+    elsewhere : (m : ℕ) → (m ≡ to + k → ⊥) → (m ≡ to + stride + k → ⊥) → slice_index zs m ≡ slice_index ys m
+    elsewhere m ne ne' =
+        get_or-set_other (slice_set ys (to + k) byte) (to + stride + k) m byte 0 ne' ∙ get_or-set_other ys (to + k) m byte 0 ne
+
+    at_low : slice_index zs (to + k) ≡ byte
+    at_low =
+        let inside : to + k < length ys = let size = h.size in omega arith in
+        get_or-set_other (slice_set ys (to + k) byte) (to + stride + k) (to + k) byte 0 (omega arith)
+        ∙ get_or-set_same ys (to + k) byte 0 inside
+
+    at_high : slice_index zs (to + stride + k) ≡ byte
+    at_high =
+        let inside : to + stride + k < length (slice_set ys (to + k) byte) = let size = h.size in simp length-set (omega arith) in
+        get_or-set_same (slice_set ys (to + k) byte) (to + stride + k) byte 0 inside
+
+    -- one pair more
+    pub pair_more : Gives (slice_index ys (from + k)) (slice_index ys (from + stride + k)) byte
+        → Paired Gives xs to from stride (k + 1) (slice_set (slice_set ys (to + k) byte) (to + stride + k) byte)
+    pair_more made = record {
+      size = simp length-set h.size;
+      low = λ n nl. ⊎_elim
+          (λ (e : n ≡ k). rw e (rw (at_low, ← next_low, ← next_high) made))
+          (λ (ne : n ≡ k → ⊥). rw (elsewhere (to + n) (omega (arith, ne)) (omega arith)) (h.low n (omega (arith, ne))))
+          (cases_eq n k);
+      high = λ n nl. ⊎_elim
+          (λ (e : n ≡ k). rw e (at_high ∙ sym at_low))
+          (λ (ne : n ≡ k → ⊥). elsewhere (to + stride + n) (omega arith) (omega (arith, ne))
+          ∙ h.high n (omega (arith, ne))
+          ∙ sym (elsewhere (to + n) (omega (arith, ne)) (omega arith)))
+          (cases_eq n k);
+      others = λ m out. elim out [
+        | inl before ↦ elsewhere m (omega arith) (omega arith) ∙ h.others m (inl before)
+        | inr (inl between) ↦ elsewhere m (omega (arith, between)) (omega (arith, between))
+            ∙ h.others m (inr (inl (omega (arith, between), between.1)))
+        | inr (inr after) ↦ elsewhere m (omega arith) (omega arith) ∙ h.others m (inr (inr (omega arith)))
+      ];
+    }
 
 -- the first row past a front, once its pairs are done
 module _ (Gives : ℕ → ℕ → ℕ → Type 0) (xs ys zs : List ℕ) (w d a start stride : ℕ)
