@@ -30,17 +30,12 @@ module _ (c : After-loop-k) where
   bare : Bare (slice_index c.loop-k.bytes) c.args.self.now.width n
   bare k t lt tl out = c.loop-k.invariant.bare k t (omega arith) tl out
 
-pub invariant_of-self-clause-whole : goal.invariant_of-self-clause-whole
-invariant_of-self-clause-whole c =
-    let b = (goal.at.invariant_of-self-clause-whole c).After-loop-k in
-    (part_held c.args.self.now c.loop-k.bytes c.args.sheet.number c.live-live.result.start (n b) (whole b) c.live-live.ensures.start
-    (omega arith) c.args.sheet.known (bare b) c.deref_mut.ensures.value).size
-
-pub invariant_of-self-clause-clean : goal.invariant_of-self-clause-clean
-invariant_of-self-clause-clean c =
-    let b = (goal.at.invariant_of-self-clause-clean c).After-loop-k in
-    (part_held c.args.self.now c.loop-k.bytes c.args.sheet.number c.live-live.result.start (n b) (whole b) c.live-live.ensures.start
-    (omega arith) c.args.sheet.known (bare b) c.deref_mut.ensures.value).clean
+pub invariant_of-self : goal.invariant_of-self
+invariant_of-self c =
+    let b = (goal.at.invariant_of-self c).After-loop-k in let g = c.args.self.now in
+    let held = part_held g c.loop-k.bytes c.args.sheet.number c.live-live.result.start (n b) (whole b)
+    c.live-live.ensures.start (omega arith) c.args.sheet.known (bare b) c.deref_mut.ensures.value in
+    record { whole = held.size; some = g.some; narrow = g.narrow; clean = held.clean }
 
 pub returns : goal.returns
 returns c =

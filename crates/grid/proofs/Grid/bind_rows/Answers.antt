@@ -32,13 +32,11 @@ all g c =
     ap (λ (n : ℕ). 2 * stride * n) (last ∙ ap (λ (n : ℕ). n / (2 * stride)) c.live_bytes.ensures.value)
     ∙ rows_all c.args.self.now.width c.args.place stride c.stride_of-stride.ensures.value c.requires.places.1 c.requires.places.0
 
-pub invariant_of-self-clause-whole : goal.invariant_of-self-clause-whole
-invariant_of-self-clause-whole g c =
-    (held_after c.args.self.now c.loop-row.invariant.front (all g (goal.at.invariant_of-self-clause-whole g c).After-loop-row)).size
-
-pub invariant_of-self-clause-clean : goal.invariant_of-self-clause-clean
-invariant_of-self-clause-clean g c =
-    (held_after c.args.self.now c.loop-row.invariant.front (all g (goal.at.invariant_of-self-clause-clean g c).After-loop-row)).clean
+pub invariant_of-self : goal.invariant_of-self
+invariant_of-self g c =
+    let grid = c.args.self.now in
+    let held = held_after grid c.loop-row.invariant.front (all g (goal.at.invariant_of-self g c).After-loop-row) in
+    record { whole = held.size; some = grid.some; narrow = grid.narrow; clean = held.clean }
 
 pub returns : goal.returns
 returns g c op bits =

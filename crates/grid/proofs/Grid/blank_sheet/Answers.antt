@@ -12,28 +12,24 @@ module _ (c : After-fill) where
   whole : length c.fill.new.self ≡ n
   whole = search rules
 
+  -- each byte is the one that says the value
   filled : (k t : ℕ) → k < n → has (slice_index c.fill.new.self k) t ≡ has c.blank_byte-byte.result t
   filled k t lt = ap (λ (x : ℕ). has x t) (c.fill.ensures.clones k 0 (search rules) refl)
 
   bare : Bare (slice_index c.fill.new.self) c.args.self.now.width n
   bare k t lt tl out = filled k t lt ∙ past_states _ c.args.self.now.width t (c.blank_byte-byte.ensures t tl) out
 
-pub invariant_of-self-clause-whole : goal.invariant_of-self-clause-whole
-invariant_of-self-clause-whole c =
-    let b = (goal.at.invariant_of-self-clause-whole c).After-fill in
-    (part_held c.args.self.now c.fill.new.self c.args.sheet.number c.live-live.result.start (n b) (whole b) c.live-live.ensures.start
-    (omega arith) c.args.sheet.known (bare b) c.deref_mut.ensures.value).size
-
-pub invariant_of-self-clause-clean : goal.invariant_of-self-clause-clean
-invariant_of-self-clause-clean c =
-    let b = (goal.at.invariant_of-self-clause-clean c).After-fill in
-    (part_held c.args.self.now c.fill.new.self c.args.sheet.number c.live-live.result.start (n b) (whole b) c.live-live.ensures.start
-    (omega arith) c.args.sheet.known (bare b) c.deref_mut.ensures.value).clean
+pub invariant_of-self : goal.invariant_of-self
+invariant_of-self c =
+    let b = (goal.at.invariant_of-self c).After-fill in let g = c.args.self.now in
+    let held = part_held g c.fill.new.self c.args.sheet.number c.live-live.result.start (n b) (whole b)
+    c.live-live.ensures.start (omega arith) c.args.sheet.known (bare b) c.deref_mut.ensures.value in
+    record { whole = held.size; some = g.some; narrow = g.narrow; clean = held.clean }
 
 pub returns : goal.returns
 returns c =
-    let b = (goal.at.returns c).After-fill in
-    part_means c.args.self.now c.fill.new.self c.args.sheet.number c.live-live.result.start (n b) (whole b) c.live-live.ensures.start
-    (omega arith) c.args.sheet.known (bare b) c.deref_mut.ensures.value (λ _. c.args.value) _
-    (λ k t lt tl seen. filled b k t lt ∙ at_state _ c.args.self.now.width t (c.blank_byte-byte.ensures t tl) seen)
+    let b = (goal.at.returns c).After-fill in let g = c.args.self.now in
+    part_means g c.fill.new.self c.args.sheet.number c.live-live.result.start (n b) (whole b)
+    c.live-live.ensures.start (omega arith) c.args.sheet.known (bare b) c.deref_mut.ensures.value (λ _. c.args.value) _
+    (λ k t lt tl seen. filled b k t lt ∙ at_state _ g.width t (c.blank_byte-byte.ensures t tl) seen)
     (λ s. refl)

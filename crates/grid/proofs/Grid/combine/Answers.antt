@@ -17,11 +17,11 @@ loop-k-preserved g c =
           (rw (old_byte front c.args.left.number k (omega arith) (omega arith), old_byte front c.args.right.number k (omega arith) (omega arith)) at c.step-byte.ensures));
     }
 
-pub invariant_of-self-clause-whole : goal.invariant_of-self-clause-whole
-invariant_of-self-clause-whole g c = (held_after c.args.self.now c.loop-k.invariant.front (omega arith)).size
-
-pub invariant_of-self-clause-clean : goal.invariant_of-self-clause-clean
-invariant_of-self-clause-clean g c = (held_after c.args.self.now c.loop-k.invariant.front (omega arith)).clean
+pub invariant_of-self : goal.invariant_of-self
+invariant_of-self g c =
+    let grid = c.args.self.now in
+    let held = held_after grid c.loop-k.invariant.front (omega arith) in
+    record { whole = held.size; some = grid.some; narrow = grid.narrow; clean = held.clean }
 
 pub returns : goal.returns
 returns g c f gives =
