@@ -10,7 +10,7 @@ use Rattle.grid.specs.declared.Grid.{Grid}
 use Rattle.grid.specs.Layout.{index, meaning_of}
 use Rattle.grid.specs.Pieces.{live, Held, writing}
 use Rattle.grid.specs.Grids.{meaning, Rewrote}
-use Rattle.grid.specs.Fronts.{Front, Bare, Says, block, live_size, held_again, means_then}
+use Rattle.grid.proofs.Fronts.{Front, Bare, Says, block, live_size, held_again, means_then}
 
 -- a grid's bytes are held
 pub held : (g : Grid) → Held (vec_items g.bytes) g.width

@@ -1,12 +1,12 @@
 -- Rows of two strides.
-use Rattle.std.proofs.Common.{◌≡◌, ℕ, suc, ◌+◌, ◌-◌, ◌*◌, ◌/◌, ◌^◌, ◌<◌, ◌≤◌, Bool, true, false, cond, ◌⊎◌, List, length, slice_index, slice_set, sym, refl, ap, ◌∙◌, subst, inl, inr, ⊎_elim, mul_comm, arith, length-set, get_or-set_other, get_or-set_same}
+use Rattle.std.proofs.Common.{◌≡◌, ℕ, suc, ◌+◌, ◌-◌, ◌*◌, ◌/◌, ◌^◌, ◌<◌, ◌≤◌, Bool, true, false, cond, ◌⊎◌, List, length, slice_index, slice_set, sym, refl, ap, ◌∙◌, subst, inl, inr, ⊎_elim, mul_comm, pow-suc, arith, length-set, get_or-set_other, get_or-set_same}
 use Rattle.std.proofs.lemmas.Nat.{pow_pos, pow-add, mul-le, div-mul-add, div-add-mod'}
 use Rattle.std.proofs.lemmas.Bool.{cases_eq, cases_lt, cases_order}
 use Rattle.knowledge.specs.Sets.{has}
 use Rattle.grid.specs.Layout.{at}
 use Rattle.grid.specs.Pieces.{live, placed, Apart, Bitwise, Paired}
-use Rattle.grid.specs.Fronts.{Front, Says, block, old_bit, live_wide}
-use Rattle.grid.specs.Numbers.{pow-suc, placed_past, placed_row}
+use Rattle.grid.proofs.Fronts.{Front, Says, block, old_bit, live_wide}
+use Rattle.grid.proofs.Numbers.{placed_past, placed_row}
 use Rattle.grid.proofs.Turns.{bound_at}
 
 -- a pair of a row that is read, and written in both halves of a row
@@ -153,7 +153,7 @@ rows_whole w p high inside =
     live_wide w (omega arith)
     ∙ ap (λ (e : ℕ). 2 ^ e) parts
     ∙ pow-add 2 (w - p - 1) (suc (p - 3))
-    ∙ ap (λ (n : ℕ). 2 ^ (w - p - 1) * n) (pow-suc (p - 3))
+    ∙ ap (λ (n : ℕ). 2 ^ (w - p - 1) * n) (pow-suc 2 (p - 3) ∙ mul_comm (2 ^ (p - 3)) 2)
 
 -- the last row ends where the live bytes end
 pub rows_all : (w p stride : ℕ) → stride ≡ 2 ^ (p - 3) → 3 ≤ p → p < w → 2 * stride * (live w / (2 * stride)) ≡ live w

@@ -4,8 +4,8 @@ use Rattle.knowledge.specs.Sets.{has}
 use Rattle.board.specs.Sheets.{State, with_place}
 use Rattle.grid.specs.Layout.{at, index}
 use Rattle.grid.specs.Pieces.{placed, bound}
-use Rattle.grid.specs.Fronts.{block, at_byte}
-use Rattle.grid.specs.Numbers.{index_placed, placed_within, placed_lt}
+use Rattle.grid.proofs.Fronts.{block, at_byte}
+use Rattle.grid.proofs.Numbers.{index_placed, placed_within, placed_lt}
 
 -- one block with a place bound
 abbrev pub bound_at : List ℕ → ℕ → ℕ → (Bool → Bool → Bool) → ℕ → Bool

@@ -2,7 +2,7 @@ use Rattle.std.proofs.Common.{◌≡◌, ◌≢◌, ◌<◌, arith, rules}
 use Rattle.std.proofs.lemmas.Iterator.{cases_from_all, YieldsList-from_slice}
 use Rattle.std.proofs.lemmas.List.{places}
 use borrow.Author.Tests.{tests}
-use Rattle.grid.specs.Meanings.{all_answer}
+use Rattle.grid.proofs.Questions.{all_answer}
 use Rattle.grid.proofs.Replaced.{held}
 use Rattle.grid.proofs.Grid.all_sheet.Goals as goal
 

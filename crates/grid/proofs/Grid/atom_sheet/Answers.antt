@@ -1,7 +1,7 @@
 use Rattle.std.proofs.Common.{◌≡◌, ◌-◌, ◌<◌, ◌∙◌, ℕ, length, slice_index, slice_set, bit_and, get_or-set_same, get_or-set_other, arith, rules}
 use Rattle.knowledge.specs.Sets.{has}
-use Rattle.grid.specs.Fronts.{Bare, bare_more, says_more, masked, at_state, past_states}
-use Rattle.grid.specs.Numbers.{has_index}
+use Rattle.grid.proofs.Fronts.{Bare, bare_more, says_more, masked, at_state, past_states}
+use Rattle.grid.proofs.Numbers.{has_index}
 use Rattle.grid.proofs.Replaced.{part_held, part_means}
 use Rattle.grid.proofs.Grid.atom_sheet.Goals as goal
 use Rattle.grid.proofs.Grid.atom_sheet.Goals.{After-loop-k}

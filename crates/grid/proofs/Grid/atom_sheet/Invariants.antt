@@ -1,6 +1,6 @@
 use Rattle.knowledge.specs.Sets.{has}
 use Rattle.std.proofs.Common.{slice_index}
-use Rattle.grid.specs.Fronts.{Bare, Says}
+use Rattle.grid.proofs.Fronts.{Bare, Says}
 use Rattle.grid.proofs.Grid.atom_sheet.Given as goal
 
 abbrev pub invariant-loop-k : goal.invariant-loop-k

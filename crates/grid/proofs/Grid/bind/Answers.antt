@@ -1,7 +1,7 @@
 use Rattle.std.proofs.Common.{◌≡◌, ◌<◌, true, false, arith}
 use Rattle.knowledge.specs.Sets.{has}
 use Rattle.grid.specs.Pieces.{placed}
-use Rattle.grid.specs.Fronts.{block}
+use Rattle.grid.proofs.Fronts.{block}
 use Rattle.grid.proofs.Turns.{bound_at, bound_says, settled_bit}
 use Rattle.grid.proofs.Replaced.{in_words}
 use Rattle.grid.proofs.Grid.bind.Goals as goal

@@ -1,6 +1,6 @@
 use Rattle.std.proofs.Common.{◌≡◌, ℕ, ◌+◌, ◌-◌, ◌*◌, ◌/◌, ◌^◌, ◌≤◌, ap, ◌∙◌, subst, arith, pow_mono, vec_items}
 use Rattle.grid.specs.Pieces.{live}
-use Rattle.grid.specs.Fronts.{Says, block}
+use Rattle.grid.proofs.Fronts.{Says, block}
 use Rattle.grid.proofs.Rows.{row_more, row_says, row_room, rows_all, partner_of}
 use Rattle.grid.proofs.Replaced.{held_after, means_after}
 use Rattle.grid.proofs.Turns.{bound_at, bound_says}

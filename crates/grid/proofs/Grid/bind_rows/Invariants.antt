@@ -1,6 +1,6 @@
 use Rattle.std.proofs.Common.{Bool, ◌*◌, vec_items}
 use Rattle.grid.specs.Pieces.{Bitwise}
-use Rattle.grid.specs.Fronts.{Front, Says, block}
+use Rattle.grid.proofs.Fronts.{Front, Says, block}
 use Rattle.grid.proofs.Turns.{bound_at}
 use Rattle.grid.proofs.Grid.bind_rows.Given as goal
 

@@ -1,6 +1,6 @@
 use Rattle.std.proofs.Common.{◌≡◌, ◌-◌, ◌<◌, ℕ, length, slice_index, refl, arith, ap, ◌∙◌, rules}
 use Rattle.knowledge.specs.Sets.{has}
-use Rattle.grid.specs.Fronts.{Bare, at_state, past_states}
+use Rattle.grid.proofs.Fronts.{Bare, at_state, past_states}
 use Rattle.grid.proofs.Replaced.{part_held, part_means}
 use Rattle.grid.proofs.Grid.blank_sheet.Goals as goal
 use Rattle.grid.proofs.Grid.blank_sheet.Goals.{After-fill}

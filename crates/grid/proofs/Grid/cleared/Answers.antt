@@ -1,5 +1,5 @@
 use Rattle.std.proofs.Common.{vec_items}
-use Rattle.grid.specs.Meanings.{zeros, zeros_say, zeros_clean}
+use Rattle.grid.proofs.Questions.{zeros, zeros_say, zeros_clean}
 use Rattle.grid.proofs.Grid.cleared.Goals as goal
 
 pub invariant_of-result-clause-clean : goal.invariant_of-result-clause-clean

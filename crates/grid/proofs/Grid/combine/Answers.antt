@@ -1,6 +1,6 @@
 use Rattle.std.proofs.Common.{◌≡◌, ◌∙◌, ℕ, ◌<◌, ◌&&◌, ◌^◌, nat_lt, bit_and, refl, arith}
 use Rattle.knowledge.specs.Sets.{has}
-use Rattle.grid.specs.Fronts.{next, says_next, old_byte, masked, at_state, past_states}
+use Rattle.grid.proofs.Fronts.{next, says_next, old_byte, masked, at_state, past_states}
 use Rattle.grid.proofs.Replaced.{held_after, means_after}
 use Rattle.grid.proofs.Grid.combine.Goals as goal
 

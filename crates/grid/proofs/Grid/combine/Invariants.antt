@@ -1,5 +1,5 @@
 use Rattle.std.proofs.Common.{ℕ, Bool, vec_items}
-use Rattle.grid.specs.Fronts.{Front, Says, block}
+use Rattle.grid.proofs.Fronts.{Front, Says, block}
 use Rattle.grid.specs.Grids.{Combines}
 use Rattle.grid.proofs.Grid.combine.Given as goal
 

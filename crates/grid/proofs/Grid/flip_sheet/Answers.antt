@@ -1,7 +1,7 @@
 use Rattle.std.proofs.Common.{◌≡◌, ◌<◌, ◌-◌, not, rules}
 use Rattle.grid.specs.Layout.{at}
-use Rattle.grid.specs.Fronts.{block, at_byte}
-use Rattle.grid.specs.Octets.{has_not}
+use Rattle.grid.proofs.Fronts.{block, at_byte}
+use Rattle.grid.proofs.Octets.{has_not}
 use Rattle.grid.proofs.Grid.flip_sheet.Goals as goal
 
 pub returns : goal.returns

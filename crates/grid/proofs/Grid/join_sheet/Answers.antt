@@ -2,7 +2,7 @@ use Rattle.std.proofs.Common.{◌≡◌, arith}
 use Rattle.knowledge.specs.Sets.{has}
 use Rattle.board.specs.Requests.{joined}
 use Rattle.grid.specs.Layout.{at}
-use Rattle.grid.specs.Fronts.{block, at_byte}
+use Rattle.grid.proofs.Fronts.{block, at_byte}
 use Rattle.grid.proofs.Grid.join_sheet.Goals as goal
 
 pub returns : goal.returns

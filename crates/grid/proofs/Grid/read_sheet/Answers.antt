@@ -2,7 +2,7 @@ use Rattle.std.proofs.Common.{◌≡◌, ℕ, ◌*◌, ◌%◌, ◌^◌, ◌<◌
 use Rattle.std.proofs.lemmas.Nat.{pow_pos, mod_below}
 use Rattle.std.proofs.lemmas.List.{get_or_read}
 use Rattle.knowledge.specs.Sets.{has}
-use Rattle.grid.specs.Meanings.{read_at}
+use Rattle.grid.proofs.Questions.{read_at}
 use Rattle.grid.proofs.Grid.read_sheet.Goals as goal
 
 -- a state's number lies among the width's states

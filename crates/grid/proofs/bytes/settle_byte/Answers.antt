@@ -1,5 +1,5 @@
 use Rattle.std.proofs.Common.{◌≡◌, ◌/◌, ◌^◌, cond, arith}
-use Rattle.grid.specs.Octets.{settle_0, settle_1, settle_2}
+use Rattle.grid.proofs.Octets.{settle_0, settle_1, settle_2}
 use Rattle.grid.proofs.bytes.settle_byte.Goals as goal
 use Rattle.grid.proofs.bytes.settle_byte.Goals.{in-0, in-1, in_default, then-value, else-value}
 

@@ -1,4 +1,4 @@
-use Rattle.grid.specs.Octets.{join_bits}
+use Rattle.grid.proofs.Octets.{join_bits}
 use Rattle.grid.proofs.bytes.Cases.join.Goals as goal
 
 pub returns : goal.returns

@@ -1,6 +1,8 @@
 -- The bits of a byte.
 use Rattle.std.specs.Prelude.{◌≡◌, ℕ, zero, suc, ◌+◌, ◌-◌, ◌*◌, ◌/◌, ◌%◌, ◌^◌, ◌<◌, ◌≤◌, Bool, true, false, cond, not, ◌&&◌, ◌||◌, ◌==◌, bit_and, bit_or, nat_eq, refl}
-use Rattle.std.proofs.Common.{sym, ap, ◌∙◌, div-one, pow-suc, mul_assoc, arith, lit<}
+use Rattle.std.proofs.Common.{sym, ap, ◌∙◌, w8, pow-suc, mul_assoc, arith, lit<}
+use Rattle.std.proofs.Math.Bool.{and-true, and-false, or-false}
+use Rattle.std.proofs.lemmas.Nat.Bits.{bit_at_not, same_from_bits_below}
 use Rattle.std.proofs.lemmas.Nat.{shr-shr, shl-shr, pow-add}
 use Rattle.std.proofs.lemmas.Bool.{ne_eqb}
 use Rattle.std.proofs.lemmas.Bool.Decides.{nat_tests}
@@ -22,22 +24,9 @@ below_eight P a b c d e f g h (suc (suc (suc (suc (suc (suc zero)))))) lt = g
 below_eight P a b c d e f g h (suc (suc (suc (suc (suc (suc (suc zero))))))) lt = h
 below_eight P a b c d e f g h (suc (suc (suc (suc (suc (suc (suc (suc t)))))))) lt = absurd (omega arith)
 
--- a mask that has a bit keeps it
-pub and_true : (b : Bool) → (b && true) ≡ b
-and_true true = refl
-and_true false = refl
-
--- one that lacks it cuts it
-pub and_false : (b : Bool) → (b && false) ≡ false
-and_false true = refl
-and_false false = refl
-
 -- a byte turned round
 pub has_not : (x t : ℕ) → x < 256 → t < 8 → has (255 - x) t ≡ not (has x t)
-has_not x t small lt =
-    below_eight (λ t. has (255 - x) t ≡ not (has x t))
-    (grind (arith, nat_tests)) (grind (arith, nat_tests)) (grind (arith, nat_tests)) (grind (arith, nat_tests))
-    (grind (arith, nat_tests)) (grind (arith, nat_tests)) (grind (arith, nat_tests)) (grind (arith, nat_tests)) t lt
+has_not x t small lt = grind (arith, nat_tests, bit_at_not w8 x t small lt)
 
 -- a byte of one value
 pub has_whole : (b : Bool) (t : ℕ) → t < 8 → has (whole_byte b) t ≡ b
@@ -134,12 +123,8 @@ module _ (x m a p : ℕ) (v : Bool) where
       let z = bit_and y m in
       let low = has_or z ((z * 2 ^ a) % 256) t in
       let up = has_cut (z * 2 ^ a) t lt in
-      let kept : has (doubled x m a v) t ≡ has y t = simp (low, up, none, has_and y m t, mine, and_true, or_false) in
+      let kept : has (doubled x m a v) t ≡ has y t = simp (low, up, none, has_and y m t, mine, and-true, or-false) in
       kept ∙ lowers x a t v ∙ meets x a p t t v off on
-    where
-      or_false : (b : Bool) → (b || false) ≡ b
-      or_false true = refl
-      or_false false = refl
 
   -- a bit that the mask lacks, at which another is put
   moves : (u : ℕ) → a + u < 8 → has m (a + u) ≡ false → has m u ≡ true
@@ -149,14 +134,14 @@ module _ (x m a p : ℕ) (v : Bool) where
       let z = bit_and y m in
       let low = has_or z ((z * 2 ^ a) % 256) (a + u) in
       let up = has_cut (z * 2 ^ a) (a + u) lt ∙ has_up z a u in
-      let put : has (doubled x m a v) (a + u) ≡ has y u = simp (low, up, has_and y m (a + u), has_and y m u, other, mine, and_true, and_false) in
+      let put : has (doubled x m a v) (a + u) ≡ has y u = simp (low, up, has_and y m (a + u), has_and y m u, other, mine, and-true, and-false) in
       put ∙ lowers x a u v ∙ meets x a p (a + u) u v off on
 
   -- no bit is put where the mask lacks the one below
   gap : (u : ℕ) → has m u ≡ false → has (bit_and (cond v (x / 2 ^ a) x) m * 2 ^ a) (a + u) ≡ false
   gap u lacks =
       let y = cond v (x / 2 ^ a) x in
-      has_up (bit_and y m) a u ∙ has_and y m u ∙ ap (λ (b : Bool). has y u && b) lacks ∙ and_false (has y u)
+      has_up (bit_and y m) a u ∙ has_and y m u ∙ ap (λ (b : Bool). has y u && b) lacks ∙ and-false (has y u)
 
 -- place 0 of a byte's eight states
 pub settle_0 : (x t : ℕ) (v : Bool) → t < 8 → has (doubled x 85 1 v) t ≡ has x (placed 0 t v)
@@ -233,17 +218,7 @@ atom_past k t p lt high =
 
 -- bytes with the same bits are the same
 pub byte_ext : (x y : ℕ) → x < 256 → y < 256 → ((t : ℕ) → t < 8 → has x t ≡ has y t) → x ≡ y
-byte_ext x y lx ly h =
-    let low = same_low (x / 1) (y / 1) (h 0 (omega arith)) in
-    let b0 : x % 2 ≡ y % 2 = ap (λ (n : ℕ). n % 2) (sym (div-one x)) ∙ low ∙ ap (λ (n : ℕ). n % 2) (div-one y) in
-    let b1 = same_low (x / 2) (y / 2) (h 1 (omega arith)) in
-    let b2 = same_low (x / 4) (y / 4) (h 2 (omega arith)) in
-    let b3 = same_low (x / 8) (y / 8) (h 3 (omega arith)) in
-    let b4 = same_low (x / 16) (y / 16) (h 4 (omega arith)) in
-    let b5 = same_low (x / 32) (y / 32) (h 5 (omega arith)) in
-    let b6 = same_low (x / 64) (y / 64) (h 6 (omega arith)) in
-    let b7 = same_low (x / 128) (y / 128) (h 7 (omega arith)) in
-    omega arith
+byte_ext x y lx ly h = same_from_bits_below 8 x y lx ly (λ t lt. same (x / 2 ^ t) (y / 2 ^ t) (h t lt))
   where
-    same_low : (x y : ℕ) → (x % 2 == 1) ≡ (y % 2 == 1) → x % 2 ≡ y % 2
-    same_low x y e = grind (arith, nat_tests)
+    same : (x y : ℕ) → (x % 2 == 1) ≡ (y % 2 == 1) → x % 2 ≡ y % 2
+    same x y e = grind (arith, nat_tests)

@@ -12,8 +12,8 @@ use Rattle.board.specs.Sheets.{State, Function, Sheets, with_sheet}
 use Rattle.board.specs.Requests.{Meaning}
 use Rattle.grid.specs.Layout.{at, index, sheet, meaning_of}
 use Rattle.grid.specs.Pieces.{live, Held, writing}
-use Rattle.grid.specs.Numbers.{index_lt}
-use Rattle.grid.specs.Octets.{and_true, and_false}
+use Rattle.grid.proofs.Numbers.{index_lt}
+use Rattle.std.proofs.Math.Bool.{and-true, and-false}
 
 -- bit 8 k + t of a block is bit t of its byte k
 pub at_byte : (xs : List ℕ) (i k t : ℕ) → t < 8 → at xs i (8 * k + t) ≡ has (slice_index xs (512 * i + k)) t
@@ -72,10 +72,10 @@ module _ (p q : ℕ → ℕ) (w m : ℕ) (same : (k : ℕ) → k < m → q k ≡
 -- a bit that a width's states leave
 module _ {bit : Bool} (v : Bool) (w t : ℕ) (is : bit ≡ (v && nat_lt t (2 ^ w))) where
   pub past_states : 2 ^ w ≤ t → bit ≡ false
-  past_states out = is ∙ ap (λ (b : Bool). v && b) (le-ltb _ _ out) ∙ and_false v
+  past_states out = is ∙ ap (λ (b : Bool). v && b) (le-ltb _ _ out) ∙ and-false v
 
   pub at_state : t < 2 ^ w → bit ≡ v
-  at_state seen = is ∙ ap (λ (b : Bool). v && b) (lt-ltb _ _ seen) ∙ and_true v
+  at_state seen = is ∙ ap (λ (b : Bool). v && b) (lt-ltb _ _ seen) ∙ and-true v
 
 -- a mask leaves them
 pub masked : (byte mask w t : ℕ) → has mask t ≡ nat_lt t (2 ^ w) → has (bit_and byte mask) t ≡ (has byte t && nat_lt t (2 ^ w))

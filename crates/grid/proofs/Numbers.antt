@@ -1,8 +1,7 @@
 -- The number of a state.
-use Rattle.std.specs.Prelude.{◌≡◌, ℕ, zero, suc, ◌+◌, ◌-◌, ◌*◌, ◌/◌, ◌%◌, ◌^◌, ◌<◌, ◌≤◌, Bool, true, false, cond, ◌==◌, nat_eq, refl}
-use Rattle.std.proofs.Common.{sym, ap, ◌∙◌, arith}
+use Rattle.std.specs.Prelude.{◌≡◌, ℕ, zero, suc, ◌+◌, ◌-◌, ◌*◌, ◌/◌, ◌%◌, ◌^◌, ◌<◌, ◌≤◌, Bool, true, false, cond, ◌==◌, nat_eq}
+use Rattle.std.proofs.Common.{sym, ap, ◌∙◌, arith, pow-suc}
 use Rattle.std.proofs.Math.Path.{fun_ext}
-use Rattle.std.proofs.Math.Nat as nat
 use Rattle.std.proofs.Math.Dec.{eqb-zero-suc, eqb-suc-zero, eqb-suc-suc}
 use Rattle.std.proofs.lemmas.Nat.{shr-shr, mod-pow-add}
 use Rattle.std.proofs.lemmas.Bool.Decides.{nat_tests}
@@ -16,24 +15,11 @@ bit_small : (b : Bool) → cond b 1 0 < 2
 bit_small true = omega arith
 bit_small false = omega arith
 
--- the next power of two
-pub pow-suc : (k : ℕ) → 2 ^ suc k ≡ 2 * 2 ^ k
-pow-suc k = let e = nat.pow-suc 2 k in omega arith
-
 -- the numbers of a width's states are below its power of two
 pub index_lt : (w : ℕ) (s : State) → index w s < 2 ^ w
 unfolding index
 index_lt zero s = omega arith
-index_lt (suc w) s = let h = index_lt w (λ p. s (suc p)) in omega (arith, bit_small (s 0), pow-suc w)
-
--- a state's number reads only the places below the width
-pub index_local : (w : ℕ) (s t : State) → ((p : ℕ) → p < w → s p ≡ t p) → index w s ≡ index w t
-unfolding index
-index_local zero s t same = refl
-index_local (suc w) s t same =
-    let head : s 0 ≡ t 0 = same 0 (omega arith) in
-    let rest = index_local w (λ p. s (suc p)) (λ p. t (suc p)) (λ p lt. same (suc p) (omega arith)) in
-    ap (λ (b : Bool). cond b 1 0 + 2 * index w (λ p. s (suc p))) head ∙ ap (λ (n : ℕ). cond (t 0) 1 0 + 2 * n) rest
+index_lt (suc w) s = let h = index_lt w (λ p. s (suc p)) in omega (arith, bit_small (s 0), pow-suc 2 w)
 
 -- the bits past the lowest are those of the half
 has_tail : (n k : ℕ) → has n (suc k) ≡ has (n / 2) k
@@ -87,10 +73,10 @@ index_placed (suc w) (suc p) s v lt =
 pub placed_lt : (p m j : ℕ) (v : Bool) → p < m → j < 2 ^ m → placed p j v < 2 ^ m
 unfolding placed
 placed_lt p zero j v lp lt = absurd (omega arith)
-placed_lt zero (suc m) j v lp lt = omega (arith, pow-suc m, bit_small v)
+placed_lt zero (suc m) j v lp lt = omega (arith, pow-suc 2 m, bit_small v)
 placed_lt (suc p) (suc m) j v lp lt =
-    let h = placed_lt p m (j / 2) v (omega arith) (omega (arith, pow-suc m)) in
-    omega (arith, pow-suc m)
+    let h = placed_lt p m (j / 2) v (omega arith) (omega (arith, pow-suc 2 m)) in
+    omega (arith, pow-suc 2 m)
 
 -- a place of a byte's eight states stays in the byte
 pub placed_within : (p k t : ℕ) (v : Bool) → p < 3 → t < 8 → placed p (8 * k + t) v ≡ 8 * k + placed p t v
@@ -122,9 +108,9 @@ placed_count zero row j b v lt = omega (arith, bit_small b)
 placed_count (suc q) row j b v lt =
     let x = (2 * row + cond b 1 0) * 2 ^ q in
     let y = (2 * row + cond v 1 0) * 2 ^ q in
-    let e : (2 * row + cond b 1 0) * 2 ^ suc q ≡ 2 * x = ap (λ (n : ℕ). (2 * row + cond b 1 0) * n) (pow-suc q) ∙ omega arith in
-    let f : (2 * row + cond v 1 0) * 2 ^ suc q ≡ 2 * y = ap (λ (n : ℕ). (2 * row + cond v 1 0) * n) (pow-suc q) ∙ omega arith in
-    let h = placed_count q row (j / 2) b v (omega (arith, pow-suc q)) in
+    let e : (2 * row + cond b 1 0) * 2 ^ suc q ≡ 2 * x = ap (λ (n : ℕ). (2 * row + cond b 1 0) * n) (pow-suc 2 q) ∙ omega arith in
+    let f : (2 * row + cond v 1 0) * 2 ^ suc q ≡ 2 * y = ap (λ (n : ℕ). (2 * row + cond v 1 0) * n) (pow-suc 2 q) ∙ omega arith in
+    let h = placed_count q row (j / 2) b v (omega (arith, pow-suc 2 q)) in
     ap (λ (n : ℕ). (n + j) % 2 + 2 * placed q ((n + j) / 2) v) e
     ∙ ap (λ (n : ℕ). n + 2 * placed q ((2 * x + j) / 2) v) (evened x j)
     ∙ ap (λ (n : ℕ). j % 2 + 2 * placed q n v) (halved x j)
