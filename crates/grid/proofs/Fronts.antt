@@ -10,10 +10,16 @@ use Rattle.knowledge.specs.Sets.{has}
 use Rattle.knowledge.proofs.Bits.{has_and}
 use Rattle.board.specs.Sheets.{State, Function, Sheets, with_sheet}
 use Rattle.board.specs.Requests.{Meaning}
-use Rattle.grid.specs.Layout.{at, index, sheet, meaning_of}
-use Rattle.grid.specs.Pieces.{live, Held, writing}
+use Rattle.grid.specs.Layout.{at, index, sheet, meaning_of, Clean}
+use Rattle.grid.specs.Pieces.{live, writing}
 use Rattle.grid.proofs.Numbers.{index_lt}
 use Rattle.std.proofs.Math.Bool.{and-true, and-false}
+
+-- the bytes of a grid of a width
+pub record Held (xs : List ℕ) (w : ℕ) : Type 0 where
+  pub size : length xs ≡ 32768
+  pub narrow : w ≤ 12
+  pub clean : Clean xs w
 
 -- bit 8 k + t of a block is bit t of its byte k
 pub at_byte : (xs : List ℕ) (i k t : ℕ) → t < 8 → at xs i (8 * k + t) ≡ has (slice_index xs (512 * i + k)) t

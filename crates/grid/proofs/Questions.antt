@@ -11,10 +11,10 @@ use Rattle.board.specs.Sheets.{State, Sheets, state_of}
 use Rattle.board.specs.Requests.{Meaning}
 use Rattle.board.specs.Calls.{Everywhere}
 use Rattle.grid.specs.Layout.{at, index, sheet, meaning_of, unwritten, Clean}
-use Rattle.grid.specs.Pieces.{live, Held}
+use Rattle.grid.specs.Pieces.{live}
 use Rattle.grid.proofs.Octets.{byte_ext}
 use Rattle.grid.proofs.Numbers.{index_lt, index_state}
-use Rattle.grid.proofs.Fronts.{at_byte, live_size, at_state, past_states}
+use Rattle.grid.proofs.Fronts.{Held, at_byte, live_size, at_state, past_states}
 
 -- a bit of a byte is what its sheet says at the state of a number
 pub read_at : (xs : List ℕ) (w a n j : ℕ) → j ≡ n % 2 ^ w → has (slice_index xs (512 * a + j / 8)) (j % 8) ≡ sheet xs w a (state_of n)

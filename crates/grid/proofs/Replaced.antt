@@ -8,9 +8,9 @@ use borrow.Rule.Slice.PartMut.{put_mid}
 use Rattle.board.specs.Sheets.{State, Function}
 use Rattle.grid.specs.declared.Grid.{Grid}
 use Rattle.grid.specs.Layout.{index, meaning_of}
-use Rattle.grid.specs.Pieces.{live, Held, writing}
+use Rattle.grid.specs.Pieces.{live, writing}
 use Rattle.grid.specs.Grids.{meaning, Rewrote}
-use Rattle.grid.proofs.Fronts.{Front, Bare, Says, block, live_size, held_again, means_then}
+use Rattle.grid.proofs.Fronts.{Held, Front, Bare, Says, block, live_size, held_again, means_then}
 
 -- a grid's bytes are held
 pub held : (g : Grid) → Held (vec_items g.bytes) g.width

@@ -5,8 +5,8 @@ use Rattle.board.specs.declared.request.Request.{Request}
 use Rattle.board.specs.Sheets.{Function}
 use Rattle.board.specs.Requests.{Meaning, written, result}
 use Rattle.grid.specs.declared.Grid.{Grid}
-use Rattle.grid.specs.Layout.{meaning_of}
-use Rattle.grid.specs.Pieces.{live, writing}
+use Rattle.grid.specs.Layout.{index, meaning_of}
+use Rattle.grid.specs.Pieces.{live, writing, bound, Bitwise}
 
 -- what a grid means
 abbrev pub meaning : Grid → Meaning
@@ -25,3 +25,11 @@ abbrev pub Combines : (ℕ → ℕ → ℕ → Type 0) → Grid → ℕ → ℕ 
 Combines Gives g a b f =
     let xs = g.bytes.items in
     (k t r : ℕ) → k < live g.width → t < 8 → Gives (slice_index xs (512 * a + k)) (slice_index xs (512 * b + k)) r → has r t ≡ f (8 * k + t)
+
+-- the grid h is the grid g with that function in sheet d, whatever the function is
+abbrev pub Combined : (ℕ → ℕ → ℕ → Type 0) → Grid → ℕ → ℕ → ℕ → Grid → Type 0
+Combined Gives g d a b h = (f : ℕ → Bool) → Combines Gives g a b f → Rewrote g d (λ s. f (index g.width s)) h
+
+-- the same for a step that is a Boolean function at each bit, given what sheet a says with place p clear and set
+abbrev pub Bound : (ℕ → ℕ → ℕ → Type 0) → Grid → ℕ → ℕ → ℕ → Grid → Type 0
+Bound Gives g d a p h = (op : Bool → Bool → Bool) → Bitwise Gives op → Rewrote g d (bound g.bytes.items g.width a p op) h

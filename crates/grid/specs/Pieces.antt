@@ -5,7 +5,7 @@ use Rattle.knowledge.specs.Sets.{has}
 use Rattle.board.specs.Sheets.{Function, with_place, with_sheet}
 use Rattle.board.specs.Requests.{Meaning}
 use Rattle.grid.specs.declared.bytes.Cases.{Cases}
-use Rattle.grid.specs.Layout.{sheet, Clean}
+use Rattle.grid.specs.Layout.{sheet}
 
 -- how many bytes the states of a width take
 abbrev pub live : ℕ → ℕ
@@ -28,12 +28,6 @@ cases_of c = record {
   right = whole_byte (has c 1);
   neither = whole_byte (has c 0);
 }
-
--- the bytes of a grid of a width
-pub record Held (xs : List ℕ) (w : ℕ) : Type 0 where
-  pub size : length xs ≡ 32768
-  pub narrow : w ≤ 12
-  pub clean : Clean xs w
 
 -- the meaning with the function of sheet d replaced
 abbrev pub writing : Meaning → ℕ → Function → Meaning

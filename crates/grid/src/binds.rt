@@ -1,8 +1,10 @@
-// A place of a sheet bound: its two values taken together by a step, in place.
-ghost use Rattle.std.specs.Prelude.{ℕ, Bool, ◌+◌, ◌*◌, ◌<◌, ◌≤◌, length};
+// A place of a sheet bound: its two values taken together by a step, in place. The sheets and the place come one by one, as in
+// the calls of a board: a struct of them would be made in two functions and taken apart in two. That the place is one of the
+// grid's is said of each grid anew, as a type of the place alone could not say it.
+ghost use Rattle.std.specs.Prelude.{◌+◌, ◌*◌, ◌<◌, ◌≤◌, length};
 ghost use Rattle.board.specs.declared.request.Request.TheVariants.{Quantify, Fix};
-ghost use Rattle.grid.specs.Pieces.{Apart, Bitwise, Paired, bound};
-ghost use Rattle.grid.specs.Grids.{Rewrote, Wrote};
+ghost use Rattle.grid.specs.Pieces.{Apart, Paired};
+ghost use Rattle.grid.specs.Grids.{Bound, Wrote};
 
 use crate::Grid;
 use crate::blocks::BLOCK;
@@ -44,8 +46,7 @@ impl Grid {
     fn bind<F: Fn(u8, u8) -> u8>(&mut self, sheet: Sheet, from: Sheet, place: usize, step: F)
         requires places { place < self.old.width }
         requires callable { F.IsAlwaysCallable step }
-        ensures { (op : Bool → Bool → Bool) → Bitwise (F.post step) op
-            → Rewrote self.old sheet.number (bound self.old.bytes.items self.old.width from.number place op) self.new }
+        ensures { Bound (F.post step) self.old sheet.number from.number place self.new }
     {
         if place < BYTE_PLACES {
             self.combine(sheet, from, from, move |byte, _| {
@@ -60,12 +61,11 @@ impl Grid {
     }
 
     // The same for a place whose two values stand in two bytes, a stride apart: a row has a stride of bytes with the place clear,
-    // then as many with the place set.
+    // then as many with the place set. An index, and no chunks: the rows that are read and those that are written may be the same.
     fn bind_rows<F: Fn(u8, u8) -> u8>(&mut self, sheet: Sheet, from: Sheet, place: usize, step: F)
         requires places { (place < self.old.width) × (BYTE_PLACES ≤ place) }
         requires callable { F.IsAlwaysCallable step }
-        ensures { (op : Bool → Bool → Bool) → Bitwise (F.post step) op
-            → Rewrote self.old sheet.number (bound self.old.bytes.items self.old.width from.number place op) self.new }
+        ensures { Bound (F.post step) self.old sheet.number from.number place self.new }
     {
         let stride = stride_of(place);
         let rows = live_bytes(self.width) / (2 * stride);
@@ -84,7 +84,7 @@ impl Grid {
 }
 
 // Puts what the step gives for the two halves of a row that begins at `from` into both halves of the row that begins at `to`.
-// An index, and no slices: the two rows may be one.
+// An index, and no slices: the two rows may be one, and no byte is gone over twice.
 fn bind_row<F: Fn(u8, u8) -> u8>(bytes: &mut [u8], to: usize, from: usize, stride: usize, step: &F)
     requires to { to + 2 * stride ≤ length bytes.old }
     requires from { from + 2 * stride ≤ length bytes.old }

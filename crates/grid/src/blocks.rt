@@ -1,11 +1,11 @@
 // Blocks of 512 bytes, one for each sheet, read and written in place. Only a block's live bytes are gone over: the others are
 // 0 and stay so.
-ghost use Rattle.std.specs.Prelude.{◌≡◌, ℕ, Bool, ◌+◌, ◌*◌, ◌<◌, ◌≤◌};
+ghost use Rattle.std.specs.Prelude.{◌≡◌, ◌+◌, ◌*◌, ◌<◌, ◌≤◌};
 ghost use Rattle.board.specs.declared.request.Request.TheVariants.{Blank, Atom, Join, Flip};
 ghost use Rattle.board.specs.Calls.{At, Everywhere};
-ghost use Rattle.grid.specs.Layout.{index, meaning_of};
+ghost use Rattle.grid.specs.Layout.{meaning_of};
 ghost use Rattle.grid.specs.Pieces.{live};
-ghost use Rattle.grid.specs.Grids.{meaning, Combines, Rewrote, Wrote};
+ghost use Rattle.grid.specs.Grids.{meaning, Combined, Wrote};
 
 use crate::bytes::{BYTE_STATES, Cases, atom_byte, bit, blank_byte, live_bits, live_bytes};
 use crate::sheet::Sheet;
@@ -68,8 +68,7 @@ impl Grid {
         step: F,
     )
         requires { F.IsAlwaysCallable step }
-        ensures { (f : ℕ → Bool) → Combines (F.post step) self.old left.number right.number f
-            → Rewrote self.old sheet.number (λ s. f (index self.old.width s)) self.new }
+        ensures { Combined (F.post step) self.old sheet.number left.number right.number self.new }
     {
         let mask = live_bits(self.width);
         let live = live_bytes(self.width);
