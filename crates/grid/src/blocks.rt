@@ -59,7 +59,7 @@ impl Grid {
     }
 
     // Puts what the step gives for each two live bytes of the left and the right sheet into the sheet.
-    // An index, and no slices: the sheet may be the left or the right one, and would overlap it.
+    // An index, and no slices: the sheet may be the left or the right one, and no byte is gone over twice.
     pub(crate) fn combine<F: Fn(u8, u8) -> u8>(
         &mut self,
         sheet: Sheet,
@@ -87,10 +87,8 @@ impl Grid {
         ensures { At state ((meaning self.now).sheets sheet.number) result }
     {
         let number = (state % (1 << self.width)) as usize;
-        bit(
-            self.bytes[BLOCK * sheet.number + number / 8],
-            (number % 8) as u8,
-        )
+        let byte = self.bytes[BLOCK * sheet.number + number / BYTE_STATES];
+        bit(byte, (number % BYTE_STATES) as u8)
     }
 
     // Whether the sheet says the value at every state.
@@ -99,8 +97,7 @@ impl Grid {
     {
         let live = self.live(sheet);
         let wanted = blank_byte(self.width, value);
-        let bytes = &self.bytes[live];
-        bytes.iter().all(|byte| *byte == wanted)
+        self.bytes[live].iter().all(|byte| *byte == wanted)
     }
 
     // Where the sheet's live bytes lie.

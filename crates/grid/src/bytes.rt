@@ -81,7 +81,7 @@ pub(crate) fn stride_of(place: usize) -> usize
     1 << (place - BYTE_PLACES)
 }
 
-// The bits of a byte that stand for states of a width.
+// The bits of a byte that stand for states of a width. A table shows them; a formula would shift and cut at eight.
 pub(crate) fn live_bits(width: usize) -> u8
     ensures { (t : ℕ) → t < 8 → has result t ≡ nat_lt t (2 ^ width) }
 {

@@ -12,8 +12,8 @@ number s w narrow =
     let one : (1 * 2 ^ w) % 18446744073709551616 ≡ 2 ^ w = omega arith in
     (ap (λ (n : ℕ). s % n) one, omega (arith, mod_below s (2 ^ w) (pow_pos w)))
 
-pub index-requires : goal.index-requires
-index-requires c =
+pub index-byte-requires : goal.index-byte-requires
+index-byte-requires c =
     let whole = c.args.self.now.whole in let len = c.args.self.now.bytes.ok.0 in
     omega (arith, number c.args.state c.args.self.now.width c.args.self.now.narrow)
 
@@ -23,5 +23,5 @@ returns c =
     let inside = number c.args.state c.args.self.now.width c.args.self.now.narrow in
     let is = (number c.args.state c.args.self.now.width c.args.self.now.narrow).0 in
     c.bit.ensures
-    ∙ ap (λ (x : ℕ). has x (c.args.state % (1 * 2 ^ c.args.self.now.width % 18446744073709551616) % 8)) (get_or_read c.args.self.now.bytes.items _ c.index.result.now (omega arith) c.index.ensures 0)
+    ∙ ap (λ (x : ℕ). has x (c.args.state % (1 * 2 ^ c.args.self.now.width % 18446744073709551616) % 8)) (get_or_read c.args.self.now.bytes.items _ c.index-byte.result.now (omega arith) c.index-byte.ensures 0)
     ∙ read_at c.args.self.now.bytes.items c.args.self.now.width c.args.sheet.number c.args.state _ is
