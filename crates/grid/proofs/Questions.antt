@@ -74,7 +74,8 @@ module _ (xs : List ℕ) (w a byte : ℕ) (v : Bool)
           held.clean a (8 * k + t) (h, omega arith) ∙ sym (past_states v w t (wanted t tl) (omega arith))
 
   -- whether the live bytes are all this one says whether the value is said at every state
-  pub all_answer : (ys : List ℕ) (r : Bool) → ((k : ℕ) → k < live w → slice_index ys k ≡ slice_index xs (512 * a + k)) → length ys ≡ live w
+  pub all_answer : (ys : List ℕ) (r : Bool) → ((k : ℕ) → k < live w → slice_index ys k ≡ slice_index xs (512 * a + k))
+      → length ys ≡ live w
       → byte < 256
       → MatchBool r (AllWithin (λ x. x ≡ byte) ys 0 (length ys)) ((k : ℕ) × (k < length ys) × HoldsAt (λ x. (x ≢ byte) × (x < 256)) ys k)
       → Everywhere v (sheet xs w a) r

@@ -24,7 +24,8 @@ Wrote g q h = Rewrote g (written q) (result (meaning g).sheets q) h
 abbrev pub Combines : (ℕ → ℕ → ℕ → Type 0) → Grid → ℕ → ℕ → (ℕ → Bool) → Type 0
 Combines Gives g a b f =
     let xs = g.bytes.items in
-    (k t r : ℕ) → k < live g.width → t < 8 → Gives (slice_index xs (512 * a + k)) (slice_index xs (512 * b + k)) r → has r t ≡ f (8 * k + t)
+    (k t r : ℕ) → k < live g.width → t < 8 → Gives (slice_index xs (512 * a + k)) (slice_index xs (512 * b + k)) r
+    → has r t ≡ f (8 * k + t)
 
 -- the grid h is the grid g with that function in sheet d, whatever the function is
 abbrev pub Combined : (ℕ → ℕ → ℕ → Type 0) → Grid → ℕ → ℕ → ℕ → Grid → Type 0

@@ -1,4 +1,4 @@
-use Rattle.std.proofs.Common.{◌≡◌, ◌-◌, ◌<◌, ◌∙◌, ℕ, length, slice_index, slice_set, bit_and, get_or-set_same, get_or-set_other, arith, rules}
+use Rattle.std.proofs.Common.{◌&&◌, ◌^◌, nat_lt, ◌≡◌, ◌-◌, ◌<◌, ◌∙◌, ℕ, length, slice_index, slice_set, bit_and, get_or-set_same, get_or-set_other, arith, rules}
 use Rattle.knowledge.specs.Sets.{has}
 use Rattle.grid.proofs.Fronts.{Bare, bare_more, says_more, masked, at_state, past_states}
 use Rattle.grid.proofs.Numbers.{has_index}
@@ -9,15 +9,16 @@ use Rattle.grid.proofs.Grid.atom_sheet.Goals.{After-loop-k}
 pub loop-k-preserved : goal.loop-k-preserved
 loop-k-preserved c =
     let w = c.args.self.now.width in let k = c.loop-k.k in let old = c.loop-k.bytes in
-    let byte = bit_and c.atom_byte.result c.live_bits-mask.result in
-    let here : slice_index (slice_set c.loop-k.bytes c.loop-k.k byte) c.loop-k.k ≡ byte = get_or-set_same old k byte 0 (search rules) in
-    let same : (n : ℕ) → n < c.loop-k.k → slice_index (slice_set c.loop-k.bytes c.loop-k.k byte) n ≡ slice_index c.loop-k.bytes n =
-    λ n lt. get_or-set_other old k n byte 0 (omega arith) in
+    let byte = bit_and c.atom_byte.result c.live_bits-mask.result in let new = slice_set old k byte in
+    let here : slice_index new k ≡ byte = get_or-set_same old k byte 0 (search rules) in
+    let same : (n : ℕ) → n < k → slice_index new n ≡ slice_index old n = λ n lt. get_or-set_other old k n byte 0 (omega arith) in
+    let bits : (t : ℕ) → t < 8 → has byte t ≡ (has c.atom_byte.result t && nat_lt t (2 ^ w)) =
+    λ t lt. masked c.atom_byte.result c.live_bits-mask.result w t (c.live_bits-mask.ensures t lt) in
     record {
-      bare = bare_more (slice_index old) (slice_index (slice_set old k byte)) w k same c.loop-k.invariant.bare
-          (λ t lt out. rw here (past_states _ w t (masked c.atom_byte.result c.live_bits-mask.result w t (c.live_bits-mask.ensures t lt)) out));
-      says = says_more (slice_index old) (slice_index (slice_set old k byte)) w k same (λ j. has j c.args.place) c.loop-k.invariant.says
-          (λ t lt seen. rw here (at_state _ w t (masked c.atom_byte.result c.live_bits-mask.result w t (c.live_bits-mask.ensures t lt)) seen ∙ c.atom_byte.ensures t lt));
+      bare = bare_more (slice_index old) (slice_index new) w k same c.loop-k.invariant.bare
+          (λ t lt out. rw here (past_states _ w t (bits t lt) out));
+      says = says_more (slice_index old) (slice_index new) w k same (λ j. has j c.args.place) c.loop-k.invariant.says
+          (λ t lt seen. rw here (at_state _ w t (bits t lt) seen ∙ c.atom_byte.ensures t lt));
     }
 
 module _ (c : After-loop-k) where
@@ -39,8 +40,8 @@ invariant_of-self c =
 
 pub returns : goal.returns
 returns c =
-    let b = (goal.at.returns c).After-loop-k in
-    part_means c.args.self.now c.loop-k.bytes c.args.sheet.number c.live-live.result.start (n b) (whole b) c.live-live.ensures.start
-    (omega arith) c.args.sheet.known (bare b) c.deref_mut.ensures.value (λ j. has j c.args.place) _
+    let b = (goal.at.returns c).After-loop-k in let g = c.args.self.now in
+    part_means g c.loop-k.bytes c.args.sheet.number c.live-live.result.start (n b) (whole b)
+    c.live-live.ensures.start (omega arith) c.args.sheet.known (bare b) c.deref_mut.ensures.value (λ j. has j c.args.place) _
     (λ k t lt tl seen. c.loop-k.invariant.says k t (omega arith) tl seen)
-    (λ s. has_index c.args.self.now.width c.args.place s c.requires)
+    (λ s. has_index g.width c.args.place s c.requires)

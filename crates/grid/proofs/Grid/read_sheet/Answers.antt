@@ -19,9 +19,8 @@ index-byte-requires c =
 
 pub returns : goal.returns
 returns c =
-    let whole = c.args.self.now.whole in
+    let g = c.args.self.now in let whole = c.args.self.now.whole in
     let inside = number c.args.state c.args.self.now.width c.args.self.now.narrow in
-    let is = (number c.args.state c.args.self.now.width c.args.self.now.narrow).0 in
-    c.bit.ensures
-    ∙ ap (λ (x : ℕ). has x (c.args.state % (1 * 2 ^ c.args.self.now.width % 18446744073709551616) % 8)) (get_or_read c.args.self.now.bytes.items _ c.index-byte.result.now (omega arith) c.index-byte.ensures 0)
-    ∙ read_at c.args.self.now.bytes.items c.args.self.now.width c.args.sheet.number c.args.state _ is
+    let read = get_or_read g.bytes.items _ c.index-byte.result.now (omega arith) c.index-byte.ensures 0 in
+    let j = c.args.state % (1 * 2 ^ g.width % 18446744073709551616) in
+    c.bit.ensures ∙ ap (λ (x : ℕ). has x (j % 8)) read ∙ read_at g.bytes.items g.width c.args.sheet.number c.args.state _ inside.0
