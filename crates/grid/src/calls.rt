@@ -3,10 +3,7 @@ ghost use Rattle.grid.specs.Layout.{meaning_of};
 ghost use Rattle.grid.specs.Meanings;
 
 use crate::Grid;
-use crate::blocks::{
-    all_block, atom_block, blank_block, fix_block, flip_block, join_block, quantify_block,
-    read_block,
-};
+use crate::sheet::Sheet;
 use board::Board;
 use board::request::{Quantifier, Request, check_sheet};
 use knowledge::fault::Fault;
@@ -21,13 +18,13 @@ impl Board for Grid {
 
     fn blank(&mut self, sheet: usize, value: bool) -> Result<(), Fault> {
         Request::Blank { sheet, value }.check(self.width)?;
-        blank_block(&mut self.bytes, self.width, sheet, value);
+        self.blank_sheet(Sheet::of(sheet), value);
         Ok(())
     }
 
     fn atom(&mut self, sheet: usize, place: usize) -> Result<(), Fault> {
         Request::Atom { sheet, place }.check(self.width)?;
-        atom_block(&mut self.bytes, self.width, sheet, place);
+        self.atom_sheet(Sheet::of(sheet), place);
         Ok(())
     }
 
@@ -39,13 +36,13 @@ impl Board for Grid {
             code,
         }
         .check(self.width)?;
-        join_block(&mut self.bytes, self.width, sheet, left, right, code);
+        self.join_sheet(Sheet::of(sheet), Sheet::of(left), Sheet::of(right), code);
         Ok(())
     }
 
     fn flip(&mut self, sheet: usize) -> Result<(), Fault> {
         Request::Flip { sheet }.check(self.width)?;
-        flip_block(&mut self.bytes, self.width, sheet);
+        self.flip_sheet(Sheet::of(sheet));
         Ok(())
     }
 
@@ -63,7 +60,7 @@ impl Board for Grid {
             quantifier,
         }
         .check(self.width)?;
-        quantify_block(&mut self.bytes, self.width, sheet, from, place, quantifier);
+        self.quantify_sheet(Sheet::of(sheet), Sheet::of(from), place, quantifier);
         Ok(())
     }
 
@@ -75,18 +72,18 @@ impl Board for Grid {
             value,
         }
         .check(self.width)?;
-        fix_block(&mut self.bytes, self.width, sheet, from, place, value);
+        self.fix_sheet(Sheet::of(sheet), Sheet::of(from), place, value);
         Ok(())
     }
 
     fn read(&self, sheet: usize, state: u64) -> Result<bool, Fault> {
         check_sheet(sheet)?;
-        Ok(read_block(&self.bytes, self.width, sheet, state))
+        Ok(self.read_sheet(Sheet::of(sheet), state))
     }
 
     fn all(&self, sheet: usize, value: bool) -> Result<bool, Fault> {
         check_sheet(sheet)?;
-        Ok(all_block(&self.bytes, self.width, sheet, value))
+        Ok(self.all_sheet(Sheet::of(sheet), value))
     }
 
     fn width(&self) -> usize {

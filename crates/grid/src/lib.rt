@@ -5,6 +5,7 @@ mod binds;
 mod blocks;
 mod bytes;
 pub mod calls;
+mod sheet;
 
 ghost use Rattle.std.specs.Prelude.{◌≡◌, ℕ, ◌≤◌, length, Ok, Err, slice_index};
 ghost use Rattle.knowledge.specs.declared.fault.Cause.TheVariants.{Table};
@@ -22,7 +23,7 @@ pub const MOST_PLACES: usize = 12;
 
 // A board of 1 to 12 places in 32,768 bytes: sheet i is the i-th block of 512, and state j is bit j mod 8 of the block's byte
 // j div 8. Bits past the states are 0.
-#[derive(Drop)]
+#[derive(PartialEq, Eq, Debug, Drop)]
 pub struct Grid {
     bytes: Vec<u8>,
     width: usize,

@@ -1,6 +1,5 @@
-use Rattle.std.proofs.Common.{◌≡◌, ℕ}
-use Rattle.grid.specs.Pieces.{cases_of, Paired}
+use Rattle.grid.specs.Pieces.{Paired}
 use Rattle.grid.proofs.binds.bind_row.Given as goal
 
 abbrev pub invariant-loop-k : goal.invariant-loop-k
-invariant-loop-k l = (code : ℕ) → l.cases ≡ cases_of code → Paired l.initial.bytes l.to l.from l.stride code l.k l.bytes
+invariant-loop-k g l = Paired (goal.F-post g l.step) l.initial.bytes l.to l.from l.stride l.k l.bytes

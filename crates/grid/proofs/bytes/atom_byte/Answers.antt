@@ -1,6 +1,6 @@
 use Rattle.std.proofs.Common.{ℕ, ap, ◌∙◌, arith}
 use Rattle.knowledge.specs.Sets.{has}
-use Rattle.grid.specs.Octets.{atom_0, atom_1, atom_2, atom_past}
+use Rattle.grid.proofs.Octets.{atom_0, atom_1, atom_2, atom_past}
 use Rattle.grid.proofs.bytes.atom_byte.Goals as goal
 
 pub returns-in-0 : goal.returns-in-0

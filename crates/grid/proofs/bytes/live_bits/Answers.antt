@@ -1,7 +1,7 @@
 use Rattle.std.proofs.Common.{◌≡◌, ◌^◌, ◌≤◌, true, ltb, refl, arith, pow_mono}
 use Rattle.std.proofs.lemmas.Bool.{lt-ltb}
 use Rattle.knowledge.specs.Sets.{has}
-use Rattle.grid.specs.Octets.{below_eight, has_whole}
+use Rattle.grid.proofs.Octets.{below_eight, has_whole}
 use Rattle.grid.proofs.bytes.live_bits.Goals as goal
 
 pub returns-in-0 : goal.returns-in-0

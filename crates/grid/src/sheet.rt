@@ -1,0 +1,21 @@
+// The sheets of a grid.
+ghost use Rattle.std.specs.Prelude.{◌≡◌, ◌<◌};
+
+use board::request::SHEETS;
+
+// A sheet that is one of the 64.
+#[derive(Clone, Copy, PartialEq, Eq, Debug)]
+pub(crate) struct Sheet {
+    pub(crate) number: usize,
+    ghost known: { number < 64 },
+}
+
+impl Sheet {
+    // The sheet of a number that was checked.
+    pub(crate) fn of(number: usize) -> Sheet
+        requires { number < SHEETS }
+        ensures { result.number ≡ number }
+    {
+        Sheet { number }
+    }
+}
