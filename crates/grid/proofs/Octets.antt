@@ -1,8 +1,8 @@
 -- The bits of a byte.
-use Rattle.std.specs.Prelude.{◌≡◌, ℕ, zero, suc, ◌+◌, ◌-◌, ◌*◌, ◌/◌, ◌%◌, ◌^◌, ◌<◌, ◌≤◌, Bool, true, false, cond, not, ◌&&◌, ◌||◌, ◌==◌, bit_and, bit_or, nat_eq, refl}
+use Rattle.std.specs.Prelude.{◌≡◌, ℕ, ◌+◌, ◌-◌, ◌*◌, ◌/◌, ◌%◌, ◌^◌, ◌<◌, ◌≤◌, Bool, true, false, cond, not, ◌&&◌, ◌||◌, ◌==◌, bit_and, bit_or, nat_eq, refl}
 use Rattle.std.proofs.Common.{sym, ap, ◌∙◌, w8, arith}
 use Rattle.std.proofs.lemmas.Nat.Bits.{bit_at_not, same_from_bits_below}
-use Rattle.std.proofs.lemmas.Nat.{shr-shr, shl-shr}
+use Rattle.std.proofs.lemmas.Nat.{shr-shr}
 use Rattle.std.proofs.lemmas.Bool.{agree_below, agree_below_at}
 use Rattle.std.proofs.lemmas.Bool.Decides.{nat_tests}
 use Rattle.knowledge.specs.Sets.{has}
@@ -11,25 +11,13 @@ use Rattle.board.specs.Requests.{joined}
 use Rattle.grid.specs.declared.bytes.Cases.{Cases}
 use Rattle.grid.specs.Pieces.{placed, whole_byte, cases_of}
 
--- what holds of each of the numbers below eight
-pub below_eight : (P : ℕ → Type 0) → P 0 → P 1 → P 2 → P 3 → P 4 → P 5 → P 6 → P 7 → (t : ℕ) → t < 8 → P t
-below_eight P a b c d e f g h zero lt = a
-below_eight P a b c d e f g h (suc zero) lt = b
-below_eight P a b c d e f g h (suc (suc zero)) lt = c
-below_eight P a b c d e f g h (suc (suc (suc zero))) lt = d
-below_eight P a b c d e f g h (suc (suc (suc (suc zero)))) lt = e
-below_eight P a b c d e f g h (suc (suc (suc (suc (suc zero))))) lt = f
-below_eight P a b c d e f g h (suc (suc (suc (suc (suc (suc zero)))))) lt = g
-below_eight P a b c d e f g h (suc (suc (suc (suc (suc (suc (suc zero))))))) lt = h
-below_eight P a b c d e f g h (suc (suc (suc (suc (suc (suc (suc (suc t)))))))) lt = absurd (omega arith)
-
 -- a byte turned round
 pub has_not : (x t : ℕ) → x < 256 → t < 8 → has (255 - x) t ≡ not (has x t)
 has_not x t small lt = grind (arith, nat_tests, bit_at_not w8 x t small lt)
 
 -- a byte of one value
 pub has_whole : (b : Bool) (t : ℕ) → t < 8 → has (whole_byte b) t ≡ b
-has_whole true t lt = below_eight (λ t. has 255 t ≡ true) refl refl refl refl refl refl refl refl t lt
+has_whole true t lt = agree_below_at (has 255) (λ _. true) 8 t refl lt
 has_whole false t lt = has_zero t
 
 -- the four parts of a join of bytes
@@ -73,20 +61,6 @@ join_bits k c a b t is la lb lt =
 has_down : (x s t : ℕ) → has (x / 2 ^ s) t ≡ has x (s + t)
 has_down x s t = ap (λ (n : ℕ). nat_eq (n % 2) 1) (shr-shr x s t)
 
--- so does a shift up
-has_up : (z a t : ℕ) → has (z * 2 ^ a) (a + t) ≡ has z t
-has_up z a t = ap (λ (n : ℕ). nat_eq (n % 2) 1) (sym (shr-shr (z * 2 ^ a) a t) ∙ ap (λ (n : ℕ). n / 2 ^ t) (shl-shr z a))
-
--- the bits of a byte are those of a number that it is cut from
-has_cut : (n t : ℕ) → t < 8 → has (n % 256) t ≡ has n t
-has_cut n t lt =
-    below_eight (λ t. has (n % 256) t ≡ has n t)
-    (bit (omega arith)) (bit (omega arith)) (bit (omega arith)) (bit (omega arith))
-    (bit (omega arith)) (bit (omega arith)) (bit (omega arith)) (bit (omega arith)) t lt
-  where
-    bit : {a b : ℕ} → a ≡ b → (a == 1) ≡ (b == 1)
-    bit e = ap (λ (n : ℕ). nat_eq n 1) e
-
 -- the bits that a mask has of a byte, which is lowered by a shift where v is true, each put at the shift too
 abbrev doubled : ℕ → ℕ → ℕ → Bool → ℕ
 doubled x m a v = let y = cond v (x / 2 ^ a) x in bit_or (bit_and y m) ((bit_and y m * 2 ^ a) % 256)
@@ -117,26 +91,16 @@ unfolding placed
 settle_2 x t true = each_byte (λ x t. has (doubled x 15 4 true) t) (λ x t. has x (placed 2 t true)) refl x t
 settle_2 x t false = each_byte (λ x t. has (doubled x 15 4 false) t) (λ x t. has x (placed 2 t false)) refl x t
 
--- place 0 of a byte's eight states is a pattern that all bytes share
-pub atom_0 : (k t : ℕ) → t < 8 → has 170 t ≡ has (8 * k + t) 0
-atom_0 k t lt =
-    below_eight (λ t. has 170 t ≡ has (8 * k + t) 0)
-    (grind (arith, nat_tests)) (grind (arith, nat_tests)) (grind (arith, nat_tests)) (grind (arith, nat_tests))
-    (grind (arith, nat_tests)) (grind (arith, nat_tests)) (grind (arith, nat_tests)) (grind (arith, nat_tests)) t lt
+-- the places of a byte's eight states are patterns that all bytes share
+module _ (k t : ℕ) (lt : t < 8) where
+  pub atom_0 : has 170 t ≡ has (8 * k + t) 0
+  atom_0 = agree_below_at (has 170) (λ t. has t 0) 8 t refl lt ∙ ap (λ (n : ℕ). nat_eq n 1) (omega arith)
 
--- so is place 1
-pub atom_1 : (k t : ℕ) → t < 8 → has 204 t ≡ has (8 * k + t) 1
-atom_1 k t lt =
-    below_eight (λ t. has 204 t ≡ has (8 * k + t) 1)
-    (grind (arith, nat_tests)) (grind (arith, nat_tests)) (grind (arith, nat_tests)) (grind (arith, nat_tests))
-    (grind (arith, nat_tests)) (grind (arith, nat_tests)) (grind (arith, nat_tests)) (grind (arith, nat_tests)) t lt
+  pub atom_1 : has 204 t ≡ has (8 * k + t) 1
+  atom_1 = agree_below_at (has 204) (λ t. has t 1) 8 t refl lt ∙ ap (λ (n : ℕ). nat_eq n 1) (omega arith)
 
--- and place 2
-pub atom_2 : (k t : ℕ) → t < 8 → has 240 t ≡ has (8 * k + t) 2
-atom_2 k t lt =
-    below_eight (λ t. has 240 t ≡ has (8 * k + t) 2)
-    (grind (arith, nat_tests)) (grind (arith, nat_tests)) (grind (arith, nat_tests)) (grind (arith, nat_tests))
-    (grind (arith, nat_tests)) (grind (arith, nat_tests)) (grind (arith, nat_tests)) (grind (arith, nat_tests)) t lt
+  pub atom_2 : has 240 t ≡ has (8 * k + t) 2
+  atom_2 = agree_below_at (has 240) (λ t. has t 2) 8 t refl lt ∙ ap (λ (n : ℕ). nat_eq n 1) (omega arith)
 
 -- a place past them is a bit of the byte's number
 pub atom_past : (k t p : ℕ) → t < 8 → 3 ≤ p → has (whole_byte (k / 2 ^ (p - 3) % 2 == 1)) t ≡ has (8 * k + t) p
