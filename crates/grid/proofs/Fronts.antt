@@ -94,15 +94,6 @@ pub record Front (xs ys : List ℕ) (w d m : ℕ) : Type 0 where
   pub rest : (k : ℕ) → m ≤ k → block ys d k ≡ block xs d k
   pub bare : Bare (block ys d) w m
 
--- nothing is done yet
-pub begin : (xs : List ℕ) (w d : ℕ) → length xs ≡ 32768 → Front xs xs w d 0
-begin xs w d size = record {
-  size = size;
-  others = λ i k ne lt. refl;
-  rest = λ k le. refl;
-  bare = λ k t none lt out. absurd (omega arith);
-}
-
 -- a byte that was written in a block, and the ones before it
 module _ (ys : List ℕ) (d m byte : ℕ) where
   pub written_here : 512 * d + m < length ys → block (slice_set ys (512 * d + m) byte) d m ≡ byte

@@ -1,7 +1,7 @@
 -- Rows of two strides.
 use Rattle.std.proofs.Common.{◌≡◌, ℕ, suc, ◌+◌, ◌-◌, ◌*◌, ◌/◌, ◌^◌, ◌<◌, ◌≤◌, Bool, true, false, cond, ◌⊎◌, List, length, slice_index, slice_set, sym, refl, ap, ◌∙◌, subst, inl, inr, ⊎_elim, mul_comm, pow-suc, arith, length-set, get_or-set_other, get_or-set_same}
 use Rattle.std.proofs.lemmas.Nat.{pow_pos, pow-add, mul-le, div-mul-add, div-add-mod'}
-use Rattle.std.proofs.lemmas.Bool.{cases_eq, cases_lt, cases_order}
+use Rattle.std.proofs.lemmas.Bool.{cases_eq, cases_lt}
 use Rattle.knowledge.specs.Sets.{has}
 use Rattle.grid.specs.Layout.{at}
 use Rattle.grid.specs.Pieces.{live, placed, Apart, Bitwise, Paired}
@@ -175,11 +175,3 @@ pub partner_of : (q row stride : ℕ) → stride ≡ 2 ^ q → (j : ℕ) (b v : 
 partner_of q row stride is j b v lt =
     subst (λ (s : ℕ). placed q (2 * s * row + cond b s 0 + j) v ≡ 2 * s * row + cond v s 0 + j) (sym is)
     (placed_row q row j b v (omega arith))
-
--- rows of two blocks at one place are the same or apart
-pub blocks_apart : (d a start size : ℕ) → start + size ≤ 512 → Apart (512 * d + start) (512 * a + start) size
-blocks_apart d a start size room = elim (cases_order d a) [
-  | inl same ↦ inl (omega arith)
-  | inr (inl before) ↦ inr (inl (omega arith))
-  | inr (inr after) ↦ inr (inr (omega arith))
-]

@@ -1,6 +1,6 @@
-// A place of a sheet bound: its two values taken together by a step, in place. The sheets and the place come one by one, as in
-// the calls of a board: a struct of them would be made in two functions and taken apart in two. That the place is one of the
-// grid's is said of each grid anew, as a type of the place alone could not say it.
+// A place of a sheet bound: its two values taken together by a step, in place. The sheets and the place come one by one, as
+// in the calls of a board: a struct of them would be made in two functions and taken apart in two. That the place is one of
+// the grid's is said of each grid anew, as a type of the place alone could not say it.
 ghost use Rattle.std.specs.Prelude.{◌+◌, ◌*◌, ◌<◌, ◌≤◌, length};
 ghost use Rattle.board.specs.declared.request.Request.TheVariants.{Quantify, Fix};
 ghost use Rattle.grid.specs.Pieces.{Apart, Paired};
@@ -60,8 +60,8 @@ impl Grid {
         }
     }
 
-    // The same for a place whose two values stand in two bytes, a stride apart: a row has a stride of bytes with the place clear,
-    // then as many with the place set. An index, and no chunks: the rows that are read and those that are written may be the same.
+    // The same for a place whose two values stand in two bytes, a stride apart: a row has a stride of bytes with the place
+    // clear, then as many with the place set. An index, and no chunks: the rows read and the rows written may be the same.
     fn bind_rows<F: Fn(u8, u8) -> u8>(&mut self, sheet: Sheet, from: Sheet, place: usize, step: F)
         requires places { (place < self.old.width) × (BYTE_PLACES ≤ place) }
         requires callable { F.IsAlwaysCallable step }
@@ -83,7 +83,7 @@ impl Grid {
     }
 }
 
-// Puts what the step gives for the two halves of a row that begins at `from` into both halves of the row that begins at `to`.
+// Puts what the step gives for the two halves of the row that begins at `from` into both halves of the one at `to`.
 // An index, and no slices: the two rows may be one, and no byte is gone over twice.
 fn bind_row<F: Fn(u8, u8) -> u8>(bytes: &mut [u8], to: usize, from: usize, stride: usize, step: &F)
     requires to { to + 2 * stride ≤ length bytes.old }

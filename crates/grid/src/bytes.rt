@@ -10,7 +10,7 @@ use crate::blocks::BLOCK;
 // How many states a byte holds.
 pub(crate) const BYTE_STATES: usize = 8;
 
-// They are those of so many places: one below this is a pattern in each byte, one past it a bit of the byte's number.
+// They are the states of this many places: one below it is a pattern in each byte, any other a bit of the byte's number.
 pub(crate) const BYTE_PLACES: usize = 3;
 
 // What a join's code says of each pair of values: 255 for yes, 0 for no.
