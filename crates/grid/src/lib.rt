@@ -41,7 +41,7 @@ impl Grid {
           | Err u ↦ (WithinLimits memory.items width → ⊥) × (u.fault ≡ in_board Table 0) × (u.memory ≡ memory)
         ] }
     {
-        if memory.len() != MEMORY || width < 1 || width > MOST_PLACES {
+        if memory.len() != MEMORY || !(1..=MOST_PLACES).contains(&width) {
             let fault = Fault::in_board(Cause::Table, 0);
             return Err(Unmade { fault, memory });
         }
