@@ -41,7 +41,8 @@ impl Terms {
         }
     }
 
-    // The lowest-numbered fault of the record at a place.
+    // The lowest-numbered fault of the record at a place, if it has one. An Option, since it answers a question: as a
+    // Result it would need five early returns, and its caller a closure to add the place.
     fn fault_in(self, place: usize, depth: usize, kind: Kind) -> Option<Cause>
         ensures { result ≡ record_fault self place depth kind }
     {
