@@ -8,7 +8,8 @@ use knowledge::fault::{Cause, Fault};
 // Sheets are numbered from 0, below this.
 pub const SHEETS: usize = 64;
 
-// Codes of a join are below this.
+// Codes of a join are below this. A code is a number and no enum, since every number is taken and those from here up
+// are refused.
 pub const CODES: u8 = 16;
 
 // For both values of a place, or for at least one.

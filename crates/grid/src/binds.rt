@@ -48,6 +48,7 @@ impl Grid {
         requires callable { F.IsAlwaysCallable step }
         ensures { Bound (F.post step) self.old sheet.number from.number place self.new }
     {
+        // the two values of a place stand in one byte or in two, which only the place decides
         if place < BYTE_PLACES {
             self.combine(sheet, from, from, move |byte, _| {
                 step(

@@ -11,6 +11,7 @@ use crate::plan::Plan;
 use crate::survey::Terms;
 use crate::table::Record;
 
+// Two calls, since the rules ask two questions: one call would take a flag that every caller writes out.
 impl Plan {
     // Refuses a table that is no formula for the plan, or tells what the formula measures.
     #[tactic(auto, using(crate::proofs::Tables::InWords::check_in_words))]

@@ -76,6 +76,7 @@ pub struct Fault {
     pub place: usize,
 }
 
+// A name for each layer that refuses: one maker for all would be the struct itself.
 impl Fault {
     // A refusal by a matter.
     pub fn in_matter(cause: Cause) -> Fault

@@ -17,7 +17,8 @@ pub struct Party {
     pub sight: FactSet,
 }
 
-// A plan. Its parties are numbered from 0 and have the first places of the table; the rest see nothing.
+// A plan. Its parties are numbered from 0 and have the first places of the table; the rest see nothing. The table is an
+// array with a count: no call allocates, and a plan is copied whole.
 #[derive(Clone, Copy, PartialEq, Eq, Debug)]
 pub struct Plan {
     facts: usize,

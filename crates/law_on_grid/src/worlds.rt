@@ -4,7 +4,7 @@ ghost use Rattle.law_on_grid.specs.Worlds.{law_calls, WritesLaw};
 
 use board::request::Request;
 
-// The code of a join that says yes where at least one of two sheets does.
+// The code of a join that says yes where at least one of two sheets does: a number, as the rules have it.
 const OR: u8 = 14;
 
 // The calls that write the law, some offer was made, into sheet 0: fact p is place p - 1.
