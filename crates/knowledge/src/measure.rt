@@ -50,6 +50,6 @@ fn combined(family: Family, a: Measure, b: Measure) -> Measure
     Measure {
         depth: 1 + a.depth.max(b.depth),
         tells,
-        knowledge: matches!(family, Family::Knowing) || a.knowledge || b.knowledge,
+        knowledge: family == Family::Knowing || a.knowledge || b.knowledge,
     }
 }

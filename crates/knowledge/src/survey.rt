@@ -1,6 +1,6 @@
 // One pass over a formula table: its first fault, or what its last record measures.
 ghost use Rattle.std.specs.Prelude.{◌≡◌};
-ghost use Rattle.knowledge.specs.Tables.Check.{bad_fact, bad_party, is_modal, record_fault, bad_child, check};
+ghost use Rattle.knowledge.specs.Tables.Check.{bad_fact, bad_party, is_modal, bad_child, check, record_checked};
 ghost use Rattle.knowledge.specs.Tables.Questions.{Surveyed};
 ghost use Rattle.knowledge.specs.Tables.Tables.{family};
 
@@ -9,7 +9,7 @@ use crate::measure::Measure;
 use crate::table::{Family, Kind, MOST_DEPTH, MOST_RECORDS, Record};
 
 // What a table is checked against: how many facts and parties the plan has, and whether the table is to be a law.
-#[derive(Clone, Copy)]
+#[derive(Clone, Copy, PartialEq, Eq, Debug)]
 pub struct Terms {
     pub facts: usize,
     pub parties: usize,
@@ -21,10 +21,7 @@ impl Terms {
     fn bad_fact(self, kind: Kind) -> bool
         ensures { result ≡ bad_fact self.facts kind }
     {
-        match kind {
-            Kind::Fact { number } => !(1..=self.facts).contains(&number),
-            _ => false,
-        }
+        matches!(kind, Kind::Fact { number } if !(1..=self.facts).contains(&number))
     }
 
     // Whether a record names a party that the plan lacks, or a group that is empty or has such a member.
@@ -41,24 +38,24 @@ impl Terms {
         }
     }
 
-    // The lowest-numbered fault of the record at a place, if it has one. An Option, since it answers a question: as a
-    // Result it would need five early returns, and its caller a closure to add the place.
-    fn fault_in(self, place: usize, depth: usize, kind: Kind) -> Option<Cause>
-        ensures { result ≡ record_fault self place depth kind }
+    // Refuses the record at a place for its lowest-numbered fault.
+    fn check_record(self, place: usize, depth: usize, kind: Kind) -> Result<(), Fault>
+        ensures { result ≡ record_checked self place depth kind }
     {
-        if self.bad_fact(kind) {
-            Some(Cause::Fact)
+        let cause = if self.bad_fact(kind) {
+            Cause::Fact
         } else if self.bad_party(kind) {
-            Some(Cause::Party)
+            Cause::Party
         } else if depth > MOST_DEPTH {
-            Some(Cause::Deep)
-        } else if self.in_law && is_modal(kind) {
-            Some(Cause::Knowledge)
-        } else if bad_child(place, kind) {
-            Some(Cause::Child)
+            Cause::Deep
+        } else if self.in_law && kind.is_modal() {
+            Cause::Knowledge
+        } else if kind.bad_child(place) {
+            Cause::Child
         } else {
-            None
-        }
+            return Ok(());
+        };
+        Err(Fault::in_table(cause, place))
     }
 
     // Goes through the records in order, to the first faulty one or to the end.
@@ -68,31 +65,31 @@ impl Terms {
         if !(1..=MOST_RECORDS).contains(&table.len()) {
             return Err(Fault::in_table(Cause::Nodes, 0));
         }
-        // an array beside the place, since no call may allocate
+        // an array and the place: no call may allocate, and a crate for one local would be the first that this one rests on
         let mut measures = [Measure::default(); MOST_RECORDS];
         let mut last = Measure::default();
         for (place, record) in table.iter().enumerate() {
             last = Measure::of(*record, &measures[..place]);
-            if let Some(cause) = self.fault_in(place, last.depth, record.kind) {
-                return Err(Fault::in_table(cause, place));
-            }
+            self.check_record(place, last.depth, record.kind)?;
             measures[place] = last;
         }
         Ok(last)
     }
 }
 
-// Whether a record is on knowledge or a notice.
-fn is_modal(kind: Kind) -> bool
-    ensures { result ≡ is_modal (family kind) }
-{
-    !matches!(kind.family(), Family::Boolean)
-}
+impl Kind {
+    // Whether a record is on knowledge or a notice.
+    fn is_modal(self) -> bool
+        ensures { result ≡ is_modal (family self) }
+    {
+        self.family() != Family::Boolean
+    }
 
-// Whether a child is no earlier record.
-fn bad_child(place: usize, kind: Kind) -> bool
-    ensures { result ≡ bad_child place kind }
-{
-    let (first, second) = kind.children();
-    first.is_some_and(|a| a >= place) || second.is_some_and(|a| a >= place)
+    // Whether a child is no earlier record.
+    fn bad_child(self, place: usize) -> bool
+        ensures { result ≡ bad_child place self }
+    {
+        let (first, second) = self.children();
+        first.is_some_and(|a| a >= place) || second.is_some_and(|a| a >= place)
+    }
 }

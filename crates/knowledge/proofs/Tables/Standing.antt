@@ -1,5 +1,5 @@
 -- Where the survey of a table stands between two records.
-use Rattle.std.proofs.Common.{◌≡◌, ℕ, zero, suc, ◌+◌, ◌<◌, ◌≤◌, true, false, ltb, List, [], ◌∷◌, ◌++◌, length, get_or, take, drop, set, Some, None, Option, sym, refl, ap, ◌∙◌, subst, arith}
+use Rattle.std.proofs.Common.{◌≡◌, ℕ, zero, suc, ◌+◌, ◌<◌, ◌≤◌, true, false, ltb, List, [], ◌∷◌, ◌++◌, length, get_or, take, drop, set, Some, None, Option, Ok, Err, Result, sym, refl, ap, ◌∙◌, subst, arith}
 use mathlib.Core.Logic.Iff
 use Rattle.std.proofs.lemmas.List.{at_drop_more, at_drop_all, take_all, take_more, take_more_set, length-set, length-take-le}
 use Rattle.std.proofs.lemmas.Bool.{ltb-false}
@@ -7,9 +7,10 @@ use Rattle.knowledge.specs.declared.fault.Cause.{Cause}
 use Rattle.knowledge.specs.declared.fault.Cause.TheVariants.{Nodes}
 use Rattle.knowledge.specs.declared.fault.Fault.{Fault}
 use Rattle.knowledge.specs.declared.measure.Measure.{Measure}
+use Rattle.knowledge.specs.declared.table.Kind.{Kind}
 use Rattle.knowledge.specs.declared.table.Record.{Record}
 use Rattle.knowledge.specs.declared.survey.Terms.{Terms}
-use Rattle.knowledge.specs.Tables.Check.{bad_fact, bad_party, record_fault, first_fault, check}
+use Rattle.knowledge.specs.Tables.Check.{bad_fact, bad_party, record_fault, record_checked, first_fault, check}
 use Rattle.knowledge.specs.Faults.{in_table}
 use Rattle.knowledge.specs.Tables.Formulas.{Formula, bottom}
 use Rattle.knowledge.specs.Tables.Measures.{unmeasured, measure_of, Gauges, Small}
@@ -188,3 +189,22 @@ ends p t i ms last b s h l =
       checked_records p t b ∙ (sym s.rest ∙ at_drop_all (first_fault p (depths i t)) t i h),
       subst (λ (u : Table). Gauge (formula u) (depth u) last) e (s.latest (omega arith)),
     )
+
+-- a refused record is why the check refuses
+pub refused_record : (p : Terms) (t : Table) (i : ℕ) (ms : List Measure) (last m : Measure) (f : Fault)
+    → between 1 256 (length t) ≡ true → Stands p t i ms last → i < length t → m ≡ measure_of (take i ms) (get_or t i none)
+    → Err f ≡ record_checked p i m.depth (get_or t i none).kind → check p t ≡ Some f
+refused_record p t i ms last m f b s h e g = go (record_fault p i m.depth (get_or t i none).kind) refl g
+  where
+    go : (o : Option Cause) → o ≡ record_fault p i m.depth (get_or t i none).kind
+        → Err f ≡ (elim o as (λ _. Result Unit Fault) [ Some c ↦ Err (in_table c i) | None ↦ Ok tt ]) → check p t ≡ Some f
+    go (Some c) q d = refuses_record p t i ms last m (Some c) c f b s h e q refl (grind arith)
+    go None q d = absurd (grind arith)
+
+-- a record that passed has no fault
+pub passed_none : (p : Terms) (i d : ℕ) (k : Kind) → Ok tt ≡ record_checked p i d k → record_fault p i d k ≡ None
+passed_none p i d k g = go (record_fault p i d k) g
+  where
+    go : (o : Option Cause) → Ok tt ≡ (elim o as (λ _. Result Unit Fault) [ Some c ↦ Err (in_table c i) | None ↦ Ok tt ]) → o ≡ None
+    go (Some c) q = absurd (grind arith)
+    go None q = refl

@@ -1,5 +1,5 @@
 -- The check of a formula table.
-use Rattle.std.specs.Prelude.{ℕ, Bool, true, false, cond, ◌&&◌, ◌||◌, List, [], ◌∷◌, ◌++◌, length, Some, None, Option, nat_le, nat_lt}
+use Rattle.std.specs.Prelude.{ℕ, Bool, true, false, cond, ◌&&◌, ◌||◌, List, [], ◌∷◌, ◌++◌, length, Some, None, Option, Ok, Err, Result, nat_le, nat_lt}
 use Rattle.std.proofs.Math.Bool as Bools
 use mathlib.Core.List.{foldr}
 use Rattle.knowledge.specs.declared.fault.Cause.{Cause}
@@ -65,6 +65,10 @@ record_fault p place depth k =
     (cond (nat_lt 12 depth) (Some cause.Deep)
     (cond (p.in_law && is_modal (family k)) (Some cause.Knowledge)
     (cond (bad_child place k) (Some cause.Child) None))))
+
+-- how the record at a place passes, or is refused
+abbrev pub record_checked : Terms → ℕ → ℕ → Kind → Result Unit Fault
+record_checked p place depth k = elim (record_fault p place depth k) [ Some c ↦ Err (in_table c place) | None ↦ Ok tt ]
 
 -- the first faulty record among those that follow faultless ones of these depths
 unfoldable pub first_fault : Terms → List ℕ → Table → Option Fault

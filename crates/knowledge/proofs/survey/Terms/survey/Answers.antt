@@ -1,7 +1,10 @@
-use Rattle.std.proofs.Common.{◌≡◌, true, false, length, refl, arith}
+use Rattle.std.proofs.Common.{◌≡◌, true, false, length, refl, get_or, Some, arith}
+use Rattle.std.proofs.lemmas.Result.{err_from_is_err_and}
 use Rattle.std.proofs.lemmas.Bool.Decides.{nat_tests}
 use Rattle.knowledge.specs.Sets.{between}
-use Rattle.knowledge.proofs.Tables.Standing.{begins, goes_on, refuses_length, refuses_record, ends}
+use Rattle.knowledge.specs.Tables.Check.{check}
+use Rattle.knowledge.specs.Tables.Tables.{none}
+use Rattle.knowledge.proofs.Tables.Standing.{begins, goes_on, refuses_length, refused_record, passed_none, ends}
 use Rattle.knowledge.proofs.survey.Terms.survey.Goals as goal
 
 -- too few records, or too many
@@ -14,19 +17,21 @@ pub loop-place-init : goal.loop-place-init
 loop-place-init c = begins c.args.self c.args.table.now _ c.default-last.result refl
 
 -- the first faulty record
-pub returns-in-Some : goal.returns-in-Some
-returns-in-Some c =
+pub returns-in_err-check_record : goal.returns-in_err-check_record
+returns-in_err-check_record c =
     let b : between 1 256 (length c.args.table.now) ≡ true = grind (arith, nat_tests) in
-    refuses_record c.args.self c.args.table.now c.loop-place.place c.loop-place.measures c.loop-place.last
-    c.of-last.result c.fault_in.result c.in-Some.cause c.in_table-in-Some.result b c.loop-place.invariant c.loop-place-test.true c.of-last.ensures
-    c.fault_in.ensures c.in-Some.is c.in_table-in-Some.ensures
+    let r : check c.args.self c.args.table.now ≡ Some c.in_err-check_record.field-0.0 =
+    refused_record c.args.self c.args.table.now c.loop-place.place c.loop-place.measures c.loop-place.last
+    c.of-last.result c.in_err-check_record.field-0.0 b c.loop-place.invariant c.loop-place-test.true c.of-last.ensures
+    c.in_err-check_record.ensures in
+    let p = err_from_is_err_and c.from_residual.result c.from_residual.ensures.1 in rw (p.1, p.2) r
 
 -- a record without fault
 pub loop-place-preserved : goal.loop-place-preserved
 loop-place-preserved c =
     goes_on c.args.self c.args.table.now c.loop-place.place c.loop-place.measures c.loop-place.last
-    c.of-last.result c.fault_in.result c.loop-place.invariant c.loop-place-test.true (grind (arith, nat_tests)) c.of-last.ensures
-    c.fault_in.ensures c.in_default.is
+    c.of-last.result _ c.loop-place.invariant c.loop-place-test.true (grind (arith, nat_tests)) c.of-last.ensures
+    refl (passed_none c.args.self c.loop-place.place c.of-last.result.depth (get_or c.args.table.now c.loop-place.place none).kind c.in_ok-check_record.ensures)
 
 pub returns : goal.returns
 returns c =
