@@ -75,10 +75,9 @@ impl<B> Pair<B> {
     pub fn map<C, F: FnOnce(B) -> C>(self, change: F) -> Pair<C>
         requires { F.IsAlwaysCallable change }
     {
-        let Pair { board, tables } = self;
         Pair {
-            board: change(board),
-            tables,
+            board: change(self.board),
+            tables: self.tables,
         }
     }
 }

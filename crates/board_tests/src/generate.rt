@@ -64,7 +64,7 @@ impl Iterator for Source {
         let v = self.value();
         let request = match self.number() % 12 {
             0 => blank(d, v),
-            1 | 2 | 3 => atom(d, p),
+            1..=3 => atom(d, p),
             4 => flip(d),
             5 => quantify(d, a, p, Quantifier::ForAll),
             6 => quantify(d, a, p, Quantifier::Exists),

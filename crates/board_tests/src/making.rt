@@ -4,6 +4,7 @@ use crate::tables::Tables;
 use board::unmade::Unmade;
 use grid::Grid;
 use knowledge::fault::Cause::Table;
+use knowledge::fault::Fault;
 use std::alloc::{AllocError, Global};
 use std::test::Fail;
 
@@ -19,7 +20,7 @@ fn used_byte(k: usize) -> u8 {
 // A new grid in used memory, beside new tables.
 pub fn grid(heap: Global, width: usize) -> Result<Pair<Grid>, Difference> {
     let tables = Tables::new(heap, width)?;
-    let board = Grid::new(used(heap, 32768)?, width).map_err(|unmade| unmade.fault)?;
+    let board = Grid::new(used(heap, 32768)?, width).map_err(Fault::from)?;
     Ok(Pair { board, tables })
 }
 

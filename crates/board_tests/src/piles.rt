@@ -11,11 +11,14 @@ pub trait Exam {
     fn take<B: Board>(&self, pair: &mut Pair<B>) -> Result<(), Difference>;
 }
 
-// Puts a grid through an exam, a sign over a grid, and a sign over a sign over a grid.
-pub fn on_piles<E: Exam>(exam: &E, heap: Global, width: usize) -> Result<(), Difference> {
-    exam.take(&mut grid(heap, width)?)?;
-    exam.take(&mut grid(heap, width)?.map(Sign::over))?;
-    exam.take(&mut grid(heap, width)?.map(Sign::over).map(Sign::over))
+// Puts a grid of each width through an exam, a sign over a grid, and a sign over a sign over a grid.
+pub fn on_piles<E: Exam>(exam: &E, heap: Global, widths: &[usize]) -> Result<(), Difference> {
+    for width in widths {
+        exam.take(&mut grid(heap, *width)?)?;
+        exam.take(&mut grid(heap, *width)?.map(Sign::over))?;
+        exam.take(&mut grid(heap, *width)?.map(Sign::over).map(Sign::over))?;
+    }
+    Ok(())
 }
 
 // A few thousand generated calls.
@@ -29,8 +32,5 @@ impl Exam for Trial {
 
 #[test]
 fn generated_calls(rt: HostRuntime) -> Result<(), Fail> {
-    for width in [1, 3, 4, 7] {
-        on_piles(&Trial, rt.alloc(), width)?;
-    }
-    Ok(())
+    Ok(on_piles(&Trial, rt.alloc(), &[1, 3, 4, 7])?)
 }

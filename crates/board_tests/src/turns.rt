@@ -43,6 +43,5 @@ impl Exam for Turns {
 
 #[test]
 fn up_to_the_first_refusal(rt: HostRuntime) -> Result<(), Fail> {
-    on_piles(&Turns, rt.alloc(), 4)?;
-    Ok(())
+    Ok(on_piles(&Turns, rt.alloc(), &[4])?)
 }

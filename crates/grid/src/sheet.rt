@@ -1,5 +1,6 @@
 // The sheets of a grid.
 ghost use Rattle.std.specs.Prelude.{◌≡◌, ◌<◌};
+ghost use Rattle.board.specs.declared.request.TheConstants.{SHEETS};
 
 use board::request::SHEETS;
 
@@ -7,7 +8,7 @@ use board::request::SHEETS;
 #[derive(Clone, Copy, PartialEq, Eq, Debug)]
 pub(crate) struct Sheet {
     pub(crate) number: usize,
-    ghost known: { number < 64 },
+    ghost known: { number < SHEETS },
 }
 
 impl Sheet {

@@ -48,20 +48,16 @@ fn parties(rt: HostRuntime) -> Result<(), Fail> {
     let both = Group::of(&[0, 1])?;
     let absent = Group::of(&[0, 2])?;
     let nobody = Group::of(&[])?;
-    for record in singles(1, both, 0) {
-        assert_eq!(rt; plan.check(&[top(), record]).err(), None);
-    }
-    for record in doubles(both, 0, 0) {
-        assert_eq!(rt; plan.check(&[top(), record]).err(), None);
+    for record in singles(1, both, 0).iter().chain(&doubles(both, 0, 0)) {
+        assert_eq!(rt; plan.check(&[top(), *record]).err(), None);
     }
     // a negation names no party, nor do a connective and a post
     let no = refused(Cause::Party, 1);
     let alone = [None, no, no, no, no];
-    for (record, expected) in singles(2, absent, 0).iter().zip(alone) {
-        assert_eq!(rt; plan.check(&[top(), *record]).err(), expected);
-    }
-    for (record, expected) in singles(usize::MAX, nobody, 0).iter().zip(alone) {
-        assert_eq!(rt; plan.check(&[top(), *record]).err(), expected);
+    for records in [singles(2, absent, 0), singles(usize::MAX, nobody, 0)] {
+        for (record, expected) in records.iter().zip(alone) {
+            assert_eq!(rt; plan.check(&[top(), *record]).err(), expected);
+        }
     }
     let paired = [None, None, None, no, no];
     for (record, expected) in doubles(nobody, 0, 0).iter().zip(paired) {
@@ -70,7 +66,8 @@ fn parties(rt: HostRuntime) -> Result<(), Fail> {
     Ok(())
 }
 
-// A table of so many records that each negate the one before, then the record given, and what more it takes to 13.
+// A table of so many records that each negate the one before, then the record given, and what more it takes to 13. A
+// table of just so many would be another input to the tests.
 fn deep(length: usize, last: Record) -> [Record; 13] {
     array::from_fn(|i| {
         if i == length {
@@ -91,14 +88,8 @@ fn depths(rt: HostRuntime) -> Result<(), Fail> {
         assert_eq!(rt; plan.check(&deep(11, record)).err(), None);
     }
     let too_deep = refused(Cause::Deep, 12);
-    for record in singles(0, both, 11) {
-        assert_eq!(rt; plan.check(&deep(12, record)).err(), too_deep);
-    }
-    for record in doubles(both, 0, 11) {
-        assert_eq!(rt; plan.check(&deep(12, record)).err(), too_deep);
-    }
-    for record in doubles(both, 11, 0) {
-        assert_eq!(rt; plan.check(&deep(12, record)).err(), too_deep);
+    for record in all_kinds(0, both, 11).iter().flatten() {
+        assert_eq!(rt; plan.check(&deep(12, *record)).err(), too_deep);
     }
     Ok(())
 }
@@ -110,11 +101,10 @@ fn laws(rt: HostRuntime) -> Result<(), Fail> {
     // a negation and a connective may stand in a law
     let no = refused(Cause::Knowledge, 1);
     let expected = [None, no, no, no, no];
-    for (record, expected) in singles(1, both, 0).iter().zip(expected) {
-        assert_eq!(rt; plan.check_law(&[top(), *record]).err(), expected);
-    }
-    for (record, expected) in doubles(both, 0, 0).iter().zip(expected) {
-        assert_eq!(rt; plan.check_law(&[top(), *record]).err(), expected);
+    for records in [singles(1, both, 0), doubles(both, 0, 0)] {
+        for (record, expected) in records.iter().zip(expected) {
+            assert_eq!(rt; plan.check_law(&[top(), *record]).err(), expected);
+        }
     }
     // knowledge that the last record is not built on
     assert_eq!(rt; plan.check_law(&[top(), knows(0, 0), top()]).err(), no);
@@ -127,14 +117,8 @@ fn children(rt: HostRuntime) -> Result<(), Fail> {
     let both = Group::of(&[0, 1])?;
     let no = refused(Cause::Child, 1);
     for at in [1, 2, usize::MAX] {
-        for record in singles(1, both, at) {
-            assert_eq!(rt; plan.check(&[top(), record, top()]).err(), no);
-        }
-        for record in doubles(both, 0, at) {
-            assert_eq!(rt; plan.check(&[top(), record, top()]).err(), no);
-        }
-        for record in doubles(both, at, 0) {
-            assert_eq!(rt; plan.check(&[top(), record, top()]).err(), no);
+        for record in all_kinds(1, both, at).iter().flatten() {
+            assert_eq!(rt; plan.check(&[top(), *record, top()]).err(), no);
         }
     }
     assert_eq!(rt; plan.check(&[not(0)]).err(), refused(Cause::Child, 0));

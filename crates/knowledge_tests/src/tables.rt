@@ -69,3 +69,12 @@ pub(crate) fn doubles(group: Group, notice: usize, body: usize) -> [Record; 5] {
     ]
     .map(Record::from)
 }
+
+// All of these kinds with a record as a child, and the first record as the other one where there are two.
+pub(crate) fn all_kinds(party: usize, group: Group, child: usize) -> [[Record; 5]; 3] {
+    [
+        singles(party, group, child),
+        doubles(group, 0, child),
+        doubles(group, child, 0),
+    ]
+}

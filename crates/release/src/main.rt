@@ -7,7 +7,6 @@ mod sample;
 
 use knowledge::fault::Fault;
 use knowledge::plan::Plan;
-use knowledge::table::Record;
 use report::{Report, of_law, of_notice};
 
 fn main(rt: HostRuntime) -> anyhow::Result<()> {
@@ -16,9 +15,7 @@ fn main(rt: HostRuntime) -> anyhow::Result<()> {
 
 fn run(rt: &impl Print) -> anyhow::Result<()> {
     let plan = sample::plan()?;
-    let facts = plan.facts();
-    let parties = plan.parties();
-    println!(rt; "plan: facts {facts}, parties {parties}")?;
+    println!(rt; "plan: facts {}, parties {}", plan.facts(), plan.parties())?;
     laws(rt, &plan)?;
     notices(rt, &plan)?;
     faulty(rt, &plan)
@@ -39,39 +36,30 @@ fn laws(rt: &impl Print, plan: &Plan) -> anyhow::Result<()> {
     line(rt, "LAW alice knows that 2", of_law(plan, &alice_knows))
 }
 
-fn notice(rt: &impl Print, plan: &Plan, text: &str, table: &[Record]) -> anyhow::Result<()> {
-    line(rt, text, of_notice(plan, table))
-}
-
 // The notices of the bidding round, as they stand in the queue.
 fn notices(rt: &impl Print, plan: &Plan) -> anyhow::Result<()> {
-    notice(rt, plan, "POST (1|2)", &sample::some_offer())?;
-    notice(rt, plan, "POST nobody knows yet", &sample::nobody_knows())?;
-    notice(rt, plan, "POST 2", &sample::second())?;
-    notice(
-        rt,
-        plan,
-        "POST [{bob}!1][{alice}?!2](1&2)",
-        &sample::tells_before()?,
-    )?;
-    notice(
-        rt,
-        plan,
-        "POST {alice,bob} shared whether 1",
-        &sample::shared_first()?,
-    )
+    for (text, table) in [
+        ("POST (1|2)", &sample::some_offer()[..]),
+        ("POST nobody knows yet", &sample::nobody_knows()[..]),
+        ("POST 2", &sample::second()[..]),
+        ("POST [{bob}!1][{alice}?!2](1&2)", &sample::tells_before()?[..]),
+        ("POST {alice,bob} shared whether 1", &sample::shared_first()?[..]),
+    ] {
+        line(rt, text, of_notice(plan, table))?;
+    }
+    Ok(())
 }
 
 // Notices that no matter of the plan takes.
 fn faulty(rt: &impl Print, plan: &Plan) -> anyhow::Result<()> {
-    notice(rt, plan, "POST without records", &[])?;
-    notice(rt, plan, "POST 3", &sample::third())?;
-    notice(
-        rt,
-        plan,
-        "POST carol knows that 1",
-        &sample::carol_knows_first(),
-    )?;
-    notice(rt, plan, "POST twelve times not", &sample::nested())?;
-    notice(rt, plan, "POST not itself", &sample::itself())
+    for (text, table) in [
+        ("POST without records", &[][..]),
+        ("POST 3", &sample::third()[..]),
+        ("POST carol knows that 1", &sample::carol_knows_first()[..]),
+        ("POST twelve times not", &sample::nested()[..]),
+        ("POST not itself", &sample::itself()[..]),
+    ] {
+        line(rt, text, of_notice(plan, table))?;
+    }
+    Ok(())
 }

@@ -33,10 +33,7 @@ impl fmt::Display for Cost {
     ghost output = { λ c. Some (cost_line c) };
 
     fn fmt<W: fmt::Write>(&self, f: &mut fmt::Formatter<W>) -> fmt::Result {
-        let records = self.records;
-        let depth = self.depth;
-        let tells = self.tells;
-        write!(f, "records {records}, depth {depth}, tells {tells}")
+        write!(f, "records {}, depth {}, tells {}", self.records, self.depth, self.tells)
     }
 }
 

@@ -17,7 +17,7 @@ use knowledge::fault::Fault;
 use marks::{Marks, exchange, recode, under};
 
 // The board below, and which sheets are marked.
-#[derive(Drop)]
+#[derive(PartialEq, Eq, Debug, Drop)]
 pub struct Sign<B> {
     below: B,
     marks: Marks,

@@ -7,7 +7,7 @@ ghost use Rattle.sign.specs.Marks.{mark_at, with_mark, signed, meaning_above, ex
 use board::request::{CODES, Quantifier, SHEETS};
 
 // Which of the 64 sheets are marked.
-#[derive(Clone, Copy)]
+#[derive(Clone, Copy, PartialEq, Eq, Debug)]
 pub(crate) struct Marks {
     by_sheet: [bool; SHEETS],
 }
