@@ -5,7 +5,7 @@ use native.Mathlib.Decide.{dec_lt}
 use native.Mathlib.Nat.{div-eq_of_lt-le}
 use lib.Bits.{bit_and, bit_or}
 use Rattle.std.proofs.lemmas.Nat.{pow_pos, leading_top}
-use Rattle.std.proofs.lemmas.Nat.Bits.{bit_at-zero, bit_at_above, bit_at_and, bit_at_or, bit_at-pow_same, bit_at-pow_other}
+use Rattle.std.proofs.lemmas.Nat.Bits.{bit_at-zero, bit_at_above, bit_at_lowest, bit_at_and, bit_at_or, bit_at-pow_same, bit_at-pow_other}
 use Rattle.std.proofs.lemmas.Bool.Decides.{nat_tests}
 use Rattle.knowledge.specs.Sets.{FactSet, Group, has, in_facts, in_group, Within, Present, is_present}
 use Rattle.knowledge.proofs.Tests.{T-and, T-ltb}
@@ -78,6 +78,12 @@ present_bits n g =
 -- the members of two sets joined
 pub has_or : (x y k : ℕ) → has (bit_or x y) k ≡ (has x k || has y k)
 has_or x y k = let e = bit_at_or x y k in grind (arith, nat_tests)
+
+-- the lowest bit of a number that has the bits of two
+pub and_low : (x y : ℕ) → eqb (bit_and x y % 2) 1 ≡ (eqb (x % 2) 1 && eqb (y % 2) 1)
+and_low x y =
+    let e = bit_at_and x y 0 in let a = bit_at_lowest x in let b = bit_at_lowest y in let c = bit_at_lowest (bit_and x y) in
+    grind (arith, nat_tests)
 
 -- the members that two sets have in common
 pub has_and : (x y k : ℕ) → has (bit_and x y) k ≡ (has x k && has y k)

@@ -1,5 +1,5 @@
 // The check of a formula table, and what a table that passes it measures.
-ghost use Rattle.std.specs.Prelude.{◌≡◌, true, false};
+ghost use Rattle.std.specs.Prelude.{◌≡◌, true, false, None, OnOk};
 ghost use Rattle.knowledge.specs.Tables.Breaches.{CheckInWords};
 ghost use Rattle.knowledge.specs.Tables.Check.{check};
 ghost use Rattle.knowledge.specs.Tables.Questions.{Surveyed};
@@ -22,9 +22,11 @@ impl Plan {
         self.terms(false).survey(formula)
     }
 
-    // Refuses a table that is no law for the plan, or tells what the law measures.
+    // Refuses a table that is no law for the plan, or tells what the law measures. A law is a formula for the plan, too.
+    #[tactic(auto, using(crate::proofs::Tables::Laws::law_passes))]
     pub fn check_law(&self, law: &[Record]) -> Result<Measure, Fault>
-        ensures { Surveyed (check (terms_of true self.now) law.now) law.now result }
+        ensures value { Surveyed (check (terms_of true self.now) law.now) law.now result }
+        ensures formula { OnOk result (check (terms_of false self.now) law.now ≡ None) }
     {
         self.terms(true).survey(law)
     }

@@ -53,18 +53,26 @@ pub enum Layer {
     Matter,
 }
 
-// The letter by which a refusal names the layer.
-impl fmt::Display for Layer {
-    ghost output = { λ l. Some (letter l) };
-
-    fn fmt<W: fmt::Write>(&self, f: &mut fmt::Formatter<W>) -> fmt::Result {
-        f.write_str(match self {
+impl Layer {
+    // The letter by which a refusal names the layer.
+    pub fn letter(self) -> &'static str
+        ensures { result.now ≡ letter self }
+    {
+        match self {
             Layer::Plan => "P",
             Layer::Notice => "N",
             Layer::Formula => "F",
             Layer::Board => "B",
             Layer::Matter => "M",
-        })
+        }
+    }
+}
+
+impl fmt::Display for Layer {
+    ghost output = { λ l. Some (letter l) };
+
+    fn fmt<W: fmt::Write>(&self, f: &mut fmt::Formatter<W>) -> fmt::Result {
+        f.write_str(self.letter())
     }
 }
 
