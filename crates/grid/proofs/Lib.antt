@@ -1,7 +1,9 @@
 pub mod Numbers
 pub mod Octets
+pub mod Settled
 pub mod Fronts
 pub mod Questions
 pub mod Turns
 pub mod Rows
 pub mod Replaced
+pub mod Codes

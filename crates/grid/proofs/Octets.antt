@@ -1,15 +1,15 @@
 -- The bits of a byte.
-use Rattle.std.specs.Prelude.{◌≡◌, ℕ, ◌+◌, ◌-◌, ◌*◌, ◌/◌, ◌%◌, ◌^◌, ◌<◌, ◌≤◌, Bool, true, false, cond, not, ◌&&◌, ◌||◌, ◌==◌, bit_and, bit_or, nat_eq, refl}
+use Rattle.std.specs.Prelude.{◌≡◌, ℕ, ◌+◌, ◌-◌, ◌*◌, ◌/◌, ◌%◌, ◌^◌, ◌<◌, ◌≤◌, Bool, true, false, not, ◌&&◌, ◌||◌, ◌==◌, bit_and, bit_or, nat_eq, refl}
 use Rattle.std.proofs.Common.{sym, ap, ◌∙◌, w8, arith}
 use Rattle.std.proofs.lemmas.Nat.Bits.{bit_at_not, same_from_bits_below}
 use Rattle.std.proofs.lemmas.Nat.{shr-shr}
-use Rattle.std.proofs.lemmas.Bool.{agree_below, agree_below_at}
+use Rattle.std.proofs.lemmas.Bool.{agree_below_at}
 use Rattle.std.proofs.lemmas.Bool.Decides.{nat_tests}
 use Rattle.knowledge.specs.Sets.{has}
 use Rattle.knowledge.proofs.Bits.{has_and, has_or, has_zero}
 use Rattle.board.specs.Requests.{joined}
 use Rattle.grid.specs.declared.bytes.Cases.{Cases}
-use Rattle.grid.specs.Pieces.{placed, whole_byte, cases_of}
+use Rattle.grid.specs.Pieces.{whole_byte, cases_of}
 
 -- a byte turned round
 pub has_not : (x t : ℕ) → x < 256 → t < 8 → has (255 - x) t ≡ not (has x t)
@@ -58,38 +58,8 @@ join_bits k c a b t is la lb lt =
     simp (has_or, has_and, na, nb, p, q, r, s) (picked c (has a t) (has b t))
 
 -- a shift down moves the bits
-has_down : (x s t : ℕ) → has (x / 2 ^ s) t ≡ has x (s + t)
+pub has_down : (x s t : ℕ) → has (x / 2 ^ s) t ≡ has x (s + t)
 has_down x s t = ap (λ (n : ℕ). nat_eq (n % 2) 1) (shr-shr x s t)
-
--- the bits that a mask has of a byte, which is lowered by a shift where v is true, each put at the shift too
-abbrev doubled : ℕ → ℕ → ℕ → Bool → ℕ
-doubled x m a v = let y = cond v (x / 2 ^ a) x in bit_or (bit_and y m) ((bit_and y m * 2 ^ a) % 256)
-
--- what holds of the eight bits of each byte, by trying all
-each_byte : (f g : ℕ → ℕ → Bool) → agree_below (λ n. f (n / 8) (n % 8)) (λ n. g (n / 8) (n % 8)) 2048 ≡ true
-    → (x t : ℕ) → x < 256 → t < 8 → f x t ≡ g x t
-each_byte f g all x t small lt =
-    let q : (8 * x + t) / 8 ≡ x = omega arith in
-    let r : (8 * x + t) % 8 ≡ t = omega arith in
-    rw (q, r) at (agree_below_at (λ n. f (n / 8) (n % 8)) (λ n. g (n / 8) (n % 8)) 2048 (8 * x + t) all (omega arith))
-
--- place 0 of a byte's eight states
-pub settle_0 : (x t : ℕ) (v : Bool) → x < 256 → t < 8 → has (doubled x 85 1 v) t ≡ has x (placed 0 t v)
-unfolding placed
-settle_0 x t true = each_byte (λ x t. has (doubled x 85 1 true) t) (λ x t. has x (placed 0 t true)) refl x t
-settle_0 x t false = each_byte (λ x t. has (doubled x 85 1 false) t) (λ x t. has x (placed 0 t false)) refl x t
-
--- place 1 of them
-pub settle_1 : (x t : ℕ) (v : Bool) → x < 256 → t < 8 → has (doubled x 51 2 v) t ≡ has x (placed 1 t v)
-unfolding placed
-settle_1 x t true = each_byte (λ x t. has (doubled x 51 2 true) t) (λ x t. has x (placed 1 t true)) refl x t
-settle_1 x t false = each_byte (λ x t. has (doubled x 51 2 false) t) (λ x t. has x (placed 1 t false)) refl x t
-
--- place 2 of them
-pub settle_2 : (x t : ℕ) (v : Bool) → x < 256 → t < 8 → has (doubled x 15 4 v) t ≡ has x (placed 2 t v)
-unfolding placed
-settle_2 x t true = each_byte (λ x t. has (doubled x 15 4 true) t) (λ x t. has x (placed 2 t true)) refl x t
-settle_2 x t false = each_byte (λ x t. has (doubled x 15 4 false) t) (λ x t. has x (placed 2 t false)) refl x t
 
 -- the places of a byte's eight states are patterns that all bytes share
 module _ (k t : ℕ) (lt : t < 8) where

@@ -1,3 +1,4 @@
 pub mod Exchanges
 pub mod Marked
 pub mod HandedDown
+pub mod Signed
