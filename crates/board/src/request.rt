@@ -120,7 +120,7 @@ impl Request {
     }
 }
 
-// Refuses a sheet that no board has, for the questions.
+// Refuses a sheet that no board has, for a call that names but one.
 pub fn check_sheet(sheet: usize) -> Result<(), Fault>
     ensures { SheetChecked sheet result }
 {

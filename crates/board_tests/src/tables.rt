@@ -1,4 +1,5 @@
-// Plain truth tables: what a board must answer and say, worked out state by state from the rules.
+// Plain truth tables: what a board must answer and say, worked out state by state from the rules. Nothing of the code
+// under test is used, and the rules' numbers are written out.
 use board::request::{Quantifier, Request};
 use knowledge::fault::{Cause, Fault};
 use std::alloc::{AllocError, Global};

@@ -1,5 +1,5 @@
-// Blocks of 512 bytes, one for each sheet, read and written in place. Only a block's live bytes are gone over: the others are
-// 0 and stay so.
+// Blocks of 512 bytes, one for each sheet, read and written in place. Only a block's live bytes are gone over: the
+// others are 0 and stay so.
 ghost use Rattle.std.specs.Prelude.{◌≡◌, ◌+◌, ◌*◌, ◌<◌, ◌≤◌};
 ghost use Rattle.board.specs.declared.request.Request.TheVariants.{Blank, Atom, Join, Flip};
 ghost use Rattle.board.specs.Calls.{At, Everywhere};

@@ -10,7 +10,8 @@ use crate::blocks::BLOCK;
 // How many states a byte holds.
 pub(crate) const BYTE_STATES: usize = 8;
 
-// They are the states of this many places: one below it is a pattern in each byte, any other a bit of the byte's number.
+// They are the states of this many places: one below it is a pattern in each byte, any other a bit of the byte's
+// number.
 pub(crate) const BYTE_PLACES: usize = 3;
 
 // What a join's code says of each pair of values: 255 for yes, 0 for no.
@@ -47,7 +48,8 @@ impl Cases {
     }
 }
 
-// Whether a bit of a byte is set.
+// Whether a bit of a byte is set. The test of a set's bits in `knowledge` takes any number, and this one only those of a
+// byte, so that it has no branch.
 pub(crate) fn bit(byte: u8, number: u8) -> bool
     requires { number < 8 }
     ensures { result ≡ has byte number }
@@ -100,7 +102,8 @@ pub(crate) fn blank_byte(width: usize, value: bool) -> u8
     whole_byte(value) & live_bits(width)
 }
 
-// The eight states with one of the first three places set to a value: each bit is that of the state which its own becomes.
+// The eight states with one of the first three places set to a value: each bit is that of the state which its own
+// becomes.
 pub(crate) fn settle_byte(byte: u8, place: usize, value: bool) -> u8
     ensures { (t : ℕ) → place < 3 → t < 8 → has result t ≡ has byte (placed place t value) }
 {

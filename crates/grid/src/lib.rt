@@ -21,8 +21,8 @@ pub const MEMORY: usize = 32768;
 // How many places a grid has at most.
 pub const MOST_PLACES: usize = 12;
 
-// A board of 1 to 12 places in 32,768 bytes: sheet i is the i-th block of 512, and state j is bit j mod 8 of the block's byte
-// j div 8. Bits past the states are 0.
+// A board of 1 to 12 places in 32,768 bytes: sheet i is the i-th block of 512, and state j is bit j mod 8 of the
+// block's byte j div 8. Bits past the states are 0.
 #[derive(PartialEq, Eq, Debug, Drop)]
 pub struct Grid {
     bytes: Vec<u8>,

@@ -12,7 +12,8 @@ pub(crate) struct Sheet {
 }
 
 impl Sheet {
-    // The sheet of a number that was checked.
+    // The sheet of a number that was checked. No TryFrom: a refusal names the sheet that the call writes, which may be
+    // another one.
     pub(crate) fn of(number: usize) -> Sheet
         requires { number < SHEETS }
         ensures { result.number ≡ number }

@@ -22,7 +22,8 @@ impl Plan {
         self.terms(false).survey(formula)
     }
 
-    // Refuses a table that is no law for the plan, or tells what the law measures. A law is a formula for the plan, too.
+    // Refuses a table that is no law for the plan, or tells what the law measures. A law is a formula for the plan,
+    // too.
     #[tactic(auto, using(crate::proofs::Tables::Laws::law_passes))]
     pub fn check_law(&self, law: &[Record]) -> Result<Measure, Fault>
         ensures value { Surveyed (check (terms_of true self.now) law.now) law.now result }

@@ -65,7 +65,8 @@ impl Terms {
         if !(1..=MOST_RECORDS).contains(&table.len()) {
             return Err(Fault::in_table(Cause::Nodes, 0));
         }
-        // an array and the place: no call may allocate, and a crate for one local would be the first that this one rests on
+        // an array and the place: no call may allocate, and a crate for one local would be the first that this one
+        // rests on
         let mut measures = [Measure::default(); MOST_RECORDS];
         let mut last = Measure::default();
         for (place, record) in table.iter().enumerate() {

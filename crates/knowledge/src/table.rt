@@ -1,4 +1,5 @@
-// Formula tables. A table is a list of records, and its last record is the formula.
+// Formula tables. A table is a list of records, and its last record is the formula. Children are places in the list and
+// no boxes: the rules give the form, and a caller lends the table.
 ghost use Rattle.std.specs.Prelude.{◌≡◌};
 ghost use Rattle.knowledge.specs.Tables.Tables.{children, pair, family};
 

@@ -1,5 +1,5 @@
-// Queries whose answers were worked out by hand. The plans A, B and C and the formulas D, Q and T stand in docs/RULES.md,
-// section 11.
+// Queries whose answers were worked out by hand. The plans A, B and C and the formulas D, Q and T stand in
+// docs/RULES.md, section 11.
 ghost use Rattle.std.specs.Prelude.{◌≡◌};
 ghost use Rattle.knowledge.specs.Truth.Script.{ScriptRuns};
 ghost use Rattle.knowledge.specs.Truth.Verdicts.{answers, SetsAsListed, VerdictsTrue};

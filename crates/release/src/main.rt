@@ -42,8 +42,14 @@ fn notices(rt: &impl Print, plan: &Plan) -> anyhow::Result<()> {
         ("POST (1|2)", &sample::some_offer()[..]),
         ("POST nobody knows yet", &sample::nobody_knows()[..]),
         ("POST 2", &sample::second()[..]),
-        ("POST [{bob}!1][{alice}?!2](1&2)", &sample::tells_before()?[..]),
-        ("POST {alice,bob} shared whether 1", &sample::shared_first()?[..]),
+        (
+            "POST [{bob}!1][{alice}?!2](1&2)",
+            &sample::tells_before()?[..],
+        ),
+        (
+            "POST {alice,bob} shared whether 1",
+            &sample::shared_first()?[..],
+        ),
     ] {
         line(rt, text, of_notice(plan, table))?;
     }

@@ -33,7 +33,11 @@ impl fmt::Display for Cost {
     ghost output = { λ c. Some (cost_line c) };
 
     fn fmt<W: fmt::Write>(&self, f: &mut fmt::Formatter<W>) -> fmt::Result {
-        write!(f, "records {}, depth {}, tells {}", self.records, self.depth, self.tells)
+        write!(
+            f,
+            "records {}, depth {}, tells {}",
+            self.records, self.depth, self.tells
+        )
     }
 }
 

@@ -12,7 +12,7 @@ pub fn plan() -> Result<Plan, Fault> {
     Plan::new(2, &[alice, bob])
 }
 
-// Short names for the records of the tables below. The tests of `knowledge` have their own: a public function for each
+// Short names for the records of the tables below, each of which is a named table of the sample. The tests of `knowledge` have their own: a public function for each
 // kind would say the kind's name again.
 fn fact(number: usize) -> Record {
     Kind::Fact { number }.into()
