@@ -94,6 +94,19 @@ pub record Front (xs ys : List ℕ) (w d m : ℕ) : Type 0 where
   pub rest : (k : ℕ) → m ≤ k → block ys d k ≡ block xs d k
   pub bare : Bare (block ys d) w m
 
+-- nothing is done yet
+pub begin : (xs : List ℕ) (w d : ℕ) → length xs ≡ 32768 → Front xs xs w d 0
+begin xs w d size = record {
+  size = size;
+  others = λ i k ne lt. refl;
+  rest = λ k le. refl;
+  bare = λ k t none lt out. absurd (omega arith);
+}
+
+-- and nothing is said
+pub begin_says : (byte : ℕ → ℕ) (w : ℕ) (f : ℕ → Bool) → Says byte w 0 f
+begin_says byte w f k t none lt seen = absurd (omega arith)
+
 -- a byte that was written in a block, and the ones before it
 module _ (ys : List ℕ) (d m byte : ℕ) where
   pub written_here : 512 * d + m < length ys → block (slice_set ys (512 * d + m) byte) d m ≡ byte
@@ -123,6 +136,21 @@ module _ {xs ys : List ℕ} {w d m : ℕ} (h : Front xs ys w d m) where
       let size = h.size in
       says_more (block ys d) (block (slice_set ys (512 * d + m) byte) d) w m (written_elsewhere ys d m byte) f says
       (λ t tl seen. rw (written_here ys d m byte (omega arith)) (bits t tl seen))
+
+  -- one byte more, of which a mask leaves the width's states
+  pub next_masked : (byte mask : ℕ) → d < 64 → m < 512 → ((t : ℕ) → t < 8 → has mask t ≡ nat_lt t (2 ^ w))
+      → Front xs (slice_set ys (512 * d + m) (bit_and byte mask)) w d (m + 1)
+  next_masked byte mask known inside mine =
+      next (bit_and byte mask) known inside
+      (λ t tl out. past_states (has byte t) w t (masked byte mask w t (mine t tl)) out)
+
+  -- and what it says
+  pub says_masked : (byte mask : ℕ) → d < 64 → m < 512 → ((t : ℕ) → t < 8 → has mask t ≡ nat_lt t (2 ^ w))
+      → (f : ℕ → Bool) → Says (block ys d) w m f → ((t : ℕ) → t < 8 → has byte t ≡ f (8 * m + t))
+      → Says (block (slice_set ys (512 * d + m) (bit_and byte mask)) d) w (m + 1) f
+  says_masked byte mask known inside mine f says bits =
+      says_next (bit_and byte mask) known inside f says
+      (λ t tl seen. at_state (has byte t) w t (masked byte mask w t (mine t tl)) seen ∙ bits t tl)
 
   -- from byte m on, each block is as it was
   pub old_byte : (i k : ℕ) → m ≤ k → k < 512 → block ys i k ≡ block xs i k
@@ -184,3 +212,7 @@ module _ {xs ys : List ℕ} {w d m : ℕ} (h : Front xs ys w d m) where
       -- what the bytes mean afterwards
       pub means_then : (g : Function) → ((s : State) → f (index w s) ≡ g s) → meaning_of ys w ≡ writing (meaning_of xs w) d g
       means_then g is = ap (λ (f : Sheets). let m : Meaning = record { width = w; sure = 12; sheets = f } in m) (sheets_now g is)
+
+      -- all live bytes are done
+      pub finish : (g : Function) → ((s : State) → f (index w s) ≡ g s) → Held ys w × (meaning_of ys w ≡ writing (meaning_of xs w) d g)
+      finish g is = (held_again, means_then g is)

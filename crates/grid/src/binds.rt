@@ -1,6 +1,7 @@
 // A place of a sheet bound: its two values taken together by a step, in place. The sheets and the place come one by
 // one, as in the calls of a board: a struct of them would be made in two functions and taken apart in two. That the
 // place is one of the grid's is said of each grid anew, as a type of the place alone could not say it.
+// That a step can be called stands in each contract that takes one, as no type says it.
 ghost use Rattle.std.specs.Prelude.{◌+◌, ◌*◌, ◌<◌, ◌≤◌, length};
 ghost use Rattle.board.specs.declared.request.Request.TheVariants.{Quantify, Fix};
 ghost use Rattle.grid.specs.Pieces.{Apart, Paired};
@@ -63,7 +64,7 @@ impl Grid {
 
     // The same for a place whose two values stand in two bytes, a stride apart: a row has a stride of bytes with the
     // place clear, then as many with the place set. An index, and no chunks: the rows read and the rows written may
-    // be the same.
+    // be the same. Rows are counted, and no step_by: so the loop says that there are whole rows.
     fn bind_rows<F: Fn(u8, u8) -> u8>(&mut self, sheet: Sheet, from: Sheet, place: usize, step: F)
         requires places { (place < self.old.width) × (BYTE_PLACES ≤ place) }
         requires callable { F.IsAlwaysCallable step }

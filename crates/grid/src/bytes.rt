@@ -48,8 +48,8 @@ impl Cases {
     }
 }
 
-// Whether a bit of a byte is set. The test of a set's bits in `knowledge` takes any number, and this one only those of a
-// byte, so that it has no branch.
+// Whether a bit of a byte is set. The test of a set's bits in `knowledge` takes any number, and this one only those
+// of a byte, so that it has no branch.
 pub(crate) fn bit(byte: u8, number: u8) -> bool
     requires { number < 8 }
     ensures { result ≡ has byte number }

@@ -46,6 +46,8 @@ impl<const FIRST: usize, const LAST: usize> NumberSet<FIRST, LAST> {
     }
 }
 
+// Each set has a maker of its own, since the cause of its refusal is its own. No TryFrom: a caller with an array
+// would have to make a slice of it first.
 impl FactSet {
     // The set of the facts with these numbers; refused where no plan can have one of them.
     pub fn of(facts: &[usize]) -> Result<FactSet, Fault>

@@ -9,6 +9,7 @@ pub(crate) fn two_by_two() -> Result<Plan, Fault> {
     Plan::new(2, &[FactSet::of(&[1])?, FactSet::of(&[2])?])
 }
 
+// Short names, as a program with a sample has them: a public maker for each kind would say the kind's name again.
 pub(crate) fn top() -> Record {
     Kind::Top.into()
 }
@@ -34,7 +35,8 @@ pub(crate) fn knows(party: usize, body: usize) -> Record {
     Kind::Knows { party, body }.into()
 }
 
-// The kinds of one child, built on a record: with a party, then with a group.
+// The kinds of one child, built on a record: with a party, then with a group. Those of two have a list of their own,
+// since the kinds differ.
 pub(crate) fn singles(party: usize, group: Group, body: usize) -> [Record; 5] {
     [
         Kind::Not { body },

@@ -17,8 +17,7 @@ fn run(rt: &impl Print) -> anyhow::Result<()> {
     let plan = sample::plan()?;
     println!(rt; "plan: facts {}, parties {}", plan.facts(), plan.parties())?;
     laws(rt, &plan)?;
-    notices(rt, &plan)?;
-    faulty(rt, &plan)
+    notices(rt, &plan)
 }
 
 // A line for a law or a notice: its text, then its report or its refusal.
@@ -36,7 +35,7 @@ fn laws(rt: &impl Print, plan: &Plan) -> anyhow::Result<()> {
     line(rt, "LAW alice knows that 2", of_law(plan, &alice_knows))
 }
 
-// The notices of the bidding round, as they stand in the queue.
+// The notices of the bidding round, as they stand in the queue, and some that are faulty.
 fn notices(rt: &impl Print, plan: &Plan) -> anyhow::Result<()> {
     for (text, table) in [
         ("POST (1|2)", &sample::some_offer()[..]),
@@ -50,15 +49,7 @@ fn notices(rt: &impl Print, plan: &Plan) -> anyhow::Result<()> {
             "POST {alice,bob} shared whether 1",
             &sample::shared_first()?[..],
         ),
-    ] {
-        line(rt, text, of_notice(plan, table))?;
-    }
-    Ok(())
-}
-
-// Notices that no matter of the plan takes.
-fn faulty(rt: &impl Print, plan: &Plan) -> anyhow::Result<()> {
-    for (text, table) in [
+        // those that no matter of the plan takes
         ("POST without records", &[][..]),
         ("POST 3", &sample::third()[..]),
         ("POST carol knows that 1", &sample::carol_knows_first()[..]),

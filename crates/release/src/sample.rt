@@ -12,8 +12,8 @@ pub fn plan() -> Result<Plan, Fault> {
     Plan::new(2, &[alice, bob])
 }
 
-// Short names for the records of the tables below, each of which is a named table of the sample. The tests of `knowledge` have their own: a public function for each
-// kind would say the kind's name again.
+// Short names for the records of the tables below, each of which is a named table of the sample. The tests of
+// `knowledge` have their own: a public function for each kind would say the kind's name again.
 fn fact(number: usize) -> Record {
     Kind::Fact { number }.into()
 }
@@ -102,7 +102,7 @@ pub fn carol_knows_first() -> [Record; 2] {
     [fact(1), knows(2, 0)]
 }
 
-// twelve times not over Top, one level too deep
+// twelve times not over Top, one level too deep; the tests of `knowledge` have the like, and share no code with this
 pub fn nested() -> [Record; 13] {
     array::from_fn(|i| if i == 0 { Kind::Top.into() } else { not(i - 1) })
 }

@@ -1,5 +1,5 @@
 -- Codes whose bits change places.
-use Rattle.std.proofs.Common.{◌≡◌, ℕ, zero, suc, ◌*◌, ◌/◌, ◌%◌, ◌<◌, Bool, true, false, cond, ◌&&◌, bit_and, bit_or, nat_eq, refl, ◌∙◌}
+use Rattle.std.proofs.Common.{◌≡◌, ℕ, zero, suc, ◌*◌, ◌/◌, ◌%◌, ◌<◌, Bool, true, false, cond, ◌&&◌, bit_and, bit_or, nat_eq, refl, ◌∙◌, sym}
 use Rattle.std.proofs.lemmas.Bool.Decides.{Decides-eqb, Decides-below_and}
 use Rattle.sign.specs.Marks.{code_of, recoded}
 use Rattle.sign.specs.Codes.{joined_under, recoded_high, recoded_low, recoded_right}
@@ -39,3 +39,7 @@ recoded_by_exchanges x y c lt = recoded_low x y c lt ∙ by_table x y c lt
 
 -- what recoding a code comes to
 pub ruleset recodes = (recoded_high, recoded_right, recoded_by_exchanges)
+
+-- the same equation turned round
+pub exchanges_recode : (x y : Bool) (c : ℕ) → c < 16 → exchanged_by x y c ≡ recoded x y c
+exchanges_recode x y c lt = sym (recoded_by_exchanges x y c lt)

@@ -9,7 +9,8 @@ use Rattle.board.specs.Requests.{written, over, SheetsKnown}
 use Rattle.board.specs.Calls.{Rule}
 use Rattle.board.proofs.Layers.{Alike}
 use Rattle.sign.specs.declared.marks.Marks.{Marks}
-use Rattle.sign.specs.Marks.{mark_at, with_mark, signed, marked, exchanged}
+use Rattle.sign.specs.Marks.{mark_at, with_mark, signed, marked, exchanged, handed}
+use Rattle.sign.specs.Layer.{alike}
 
 -- a mark given twice is none
 pub twice : (m x : Bool) → signed m (signed m x) ≡ x
@@ -45,6 +46,10 @@ unchanged f d = fun_ext (λ i. fun_ext (λ s. grind (arith, common_steps)))
 -- a request names what it names itself
 pub itself : (w : ℕ) (q : Request) → Alike w q q
 itself w q = record { sheet = refl; sheets = ((λ k. k), (λ k. k)); place = ((λ k. k), (λ k. k)) }
+
+-- the request that is handed down writes the same sheet
+pub written_alike : (ms : Marks) (q r : Request) → handed ms q ≡ Some r → written r ≡ written q
+written_alike ms q r is = (alike 0 ms q r is).sheet
 
 -- the sheet written is one that is named
 pub written_known : (q : Request) → SheetsKnown q → written q < 64

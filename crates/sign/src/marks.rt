@@ -13,7 +13,7 @@ pub(crate) struct Marks {
 }
 
 impl Marks {
-    // No sheet marked: all say what they say below.
+    // No sheet marked: all say what they say below. A derived default would leave both facts to be proved by its user.
     pub(crate) fn none() -> Marks
         ensures none { (i : ℕ) → mark_at result i ≡ false }
         ensures same { (m : Meaning) → meaning_above result m ≡ m }
