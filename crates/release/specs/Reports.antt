@@ -2,6 +2,7 @@
 use Rattle.std.specs.Prelude.{◌≡◌, ℕ, true, false, List, ◌++◌, length, Some, None, Ok, Err, Result, codes, decimal}
 use Rattle.knowledge.specs.declared.fault.Fault.{Fault}
 use Rattle.knowledge.specs.declared.plan.Plan.{Plan}
+use Rattle.knowledge.specs.Faults.{written}
 use Rattle.knowledge.specs.Plans.{terms_of}
 use Rattle.knowledge.specs.Tables.Check.{check}
 use Rattle.knowledge.specs.Tables.Formulas.{MentionsKnowledge}
@@ -19,6 +20,11 @@ abbrev pub line : Report → List ℕ
 line (Law c) = cost_line c
 line (Movable c) = cost_line c ++ codes ", may change places"
 line (Fixed c) = cost_line c ++ codes ", keeps its place: it mentions knowledge"
+
+-- the bytes of what comes of a law or a notice
+abbrev pub outcome : Result Report Fault → List ℕ
+outcome (Ok r) = line r
+outcome (Err f) = written f
 
 -- what a formula takes
 abbrev pub cost_of : Table → Cost

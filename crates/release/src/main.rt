@@ -7,7 +7,7 @@ mod sample;
 
 use knowledge::fault::Fault;
 use knowledge::plan::Plan;
-use report::{Report, of_law, of_notice};
+use report::{Outcome, Report, of_law, of_notice};
 
 fn main(rt: HostRuntime) -> anyhow::Result<()> {
     run(&rt)
@@ -22,10 +22,8 @@ fn run(rt: &impl Print) -> anyhow::Result<()> {
 
 // A line for a law or a notice: its text, then its report or its refusal.
 fn line(rt: &impl Print, text: &str, report: Result<Report, Fault>) -> anyhow::Result<()> {
-    match report {
-        Ok(report) => println!(rt; "{text}: {report}")?,
-        Err(fault) => println!(rt; "{text}: {fault}")?,
-    }
+    let outcome = Outcome { report };
+    println!(rt; "{text}: {outcome}")?;
     Ok(())
 }
 

@@ -2,7 +2,7 @@
 ghost use Rattle.std.specs.Prelude.{◌≡◌, Some};
 ghost use Rattle.knowledge.specs.Tables.Questions.{Gauge};
 ghost use Rattle.knowledge.specs.Tables.Tables.{formula, depth};
-ghost use Rattle.release.specs.Reports.{cost_line, line, cost_of, LawReported, NoticeReported};
+ghost use Rattle.release.specs.Reports.{cost_line, line, outcome, cost_of, LawReported, NoticeReported};
 
 use knowledge::fault::Fault;
 use knowledge::measure::Measure;
@@ -49,6 +49,23 @@ impl fmt::Display for Report {
             Report::Law(cost) => write!(f, "{cost}"),
             Report::Movable(cost) => write!(f, "{cost}, may change places"),
             Report::Fixed(cost) => write!(f, "{cost}, keeps its place: it mentions knowledge"),
+        }
+    }
+}
+
+// What comes of a law or a notice: its report, or the check's refusal.
+#[derive(Clone, Copy, PartialEq, Eq, Debug)]
+pub struct Outcome {
+    pub report: Result<Report, Fault>,
+}
+
+impl fmt::Display for Outcome {
+    ghost output = { λ o. Some (outcome o.report) };
+
+    fn fmt<W: fmt::Write>(&self, f: &mut fmt::Formatter<W>) -> fmt::Result {
+        match self.report {
+            Ok(report) => write!(f, "{report}"),
+            Err(fault) => write!(f, "{fault}"),
         }
     }
 }
