@@ -5,7 +5,7 @@ use crate::tables::{Tables, written};
 use board::Board;
 use board::perform::perform;
 use board::request::Request;
-use knowledge::fault::{Cause, Fault};
+use knowledge::fault::{Cause, Fault, Layer};
 use std::alloc::AllocError;
 
 // What is not as it must be.
@@ -165,9 +165,14 @@ fn mixed(p: usize) -> [Request; 4] {
     ]
 }
 
-// How a call ends that a board refuses for this cause, by the first sheet of the call.
+// How a call ends that a board refuses for this cause, by the first sheet of the call. Written out: what is expected
+// comes from no code under test.
 pub fn refusal(cause: Cause, sheet: usize) -> Result<(), Fault> {
-    Err(Fault::in_board(cause, sheet))
+    Err(Fault {
+        cause,
+        layer: Layer::Board,
+        place: sheet,
+    })
 }
 
 // The call ended as it must.

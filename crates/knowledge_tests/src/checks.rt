@@ -1,14 +1,18 @@
 // The check of tables.
 use crate::tables::*;
-use knowledge::fault::{Cause, Fault};
+use knowledge::fault::{Cause, Fault, Layer};
 use knowledge::sets::Group;
 use knowledge::table::{Kind, Record};
 use std::array;
 use std::test::Fail;
 
-// A refusal at a record.
+// A refusal at a record, written out: what is expected comes from no code under test.
 fn refused(cause: Cause, record: usize) -> Option<Fault> {
-    Some(Fault::in_table(cause, record))
+    Some(Fault {
+        cause,
+        layer: Layer::Formula,
+        place: record,
+    })
 }
 
 #[test]

@@ -5,9 +5,13 @@ use knowledge::plan::Plan;
 use knowledge::sets::{FactSet, Group};
 use std::test::Fail;
 
-// A refusal by a matter.
+// A refusal by a matter, written out: what is expected comes from no code under test.
 fn refused(cause: Cause) -> Option<Fault> {
-    Some(Fault::in_matter(cause))
+    Some(Fault {
+        cause,
+        layer: Layer::Matter,
+        place: 0,
+    })
 }
 
 #[test]
@@ -121,4 +125,27 @@ fn numbers_of_causes(rt: HostRuntime) {
     for (cause, number) in numbered {
         assert_eq!(rt; u8::from(cause), number);
     }
+}
+
+#[test]
+fn letters_of_layers(rt: HostRuntime) {
+    let lettered = [
+        (Layer::Plan, "P"),
+        (Layer::Notice, "N"),
+        (Layer::Formula, "F"),
+        (Layer::Board, "B"),
+        (Layer::Matter, "M"),
+    ];
+    for (layer, letter) in lettered {
+        assert_eq!(rt; layer.letter(), letter);
+    }
+}
+
+#[test]
+fn sets_for_debugging(rt: HostRuntime) -> Result<(), Fail> {
+    let facts = FactSet::of(&[1, 2])?;
+    assert!(rt; format!(in rt.alloc(); "{facts:?}")?.as_str() == "FactSet { bits: 3 }");
+    let group = Group::of(&[0, 3])?;
+    assert!(rt; format!(in rt.alloc(); "{group:?}")?.as_str() == "Group { bits: 9 }");
+    Ok(())
 }
