@@ -5,9 +5,10 @@ ghost use Rattle.knowledge.specs.Sets.{has, contains, is_within, is_present, Gro
 
 use crate::fault::{Cause, Fault};
 use crate::plan::{MOST_FACTS, MOST_PARTIES};
+use std::fmt;
 
 // A set of numbers from FIRST to LAST: number n is bit n - FIRST.
-#[derive(Clone, Copy, PartialEq, Eq, Hash, Debug, Default)]
+#[derive(Clone, Copy, PartialEq, Eq, Hash, Default)]
 pub struct NumberSet<const FIRST: usize, const LAST: usize> {
     bits: u64,
 }
@@ -20,6 +21,18 @@ const LAST_PARTY: usize = MOST_PARTIES - 1;
 
 // A group of parties.
 pub type Group = NumberSet<0, LAST_PARTY>;
+
+// Under its name in the rules, so that a set of facts and a group are told apart.
+impl<const FIRST: usize, const LAST: usize> fmt::Debug for NumberSet<FIRST, LAST> {
+    fn fmt<W: fmt::Write>(&self, f: &mut fmt::Formatter<W>) -> fmt::Result {
+        let name = match (FIRST, LAST) {
+            (1, MOST_FACTS) => "FactSet",
+            (0, LAST_PARTY) => "Group",
+            _ => "NumberSet",
+        };
+        f.debug_struct(name).field("bits", &self.bits).finish()
+    }
+}
 
 impl<const FIRST: usize, const LAST: usize> NumberSet<FIRST, LAST> {
     // The set of these numbers; refused where one is not from FIRST to LAST.
