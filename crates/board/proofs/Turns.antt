@@ -6,7 +6,7 @@ use Rattle.knowledge.specs.declared.fault.Fault.{Fault}
 use Rattle.board.specs.declared.request.Request.{Request}
 use Rattle.board.specs.Requests.{Meaning}
 use Rattle.board.specs.Calls.{Rule, Done, Refused}
-use Rattle.board.specs.Turns.{Performed, after_all}
+use Rattle.board.specs.Turns.{Performed, after_all, AllWritten}
 
 module _ {B : Type 0} (meaning : B → Meaning) (fills : B → Rule) where
   -- requests that are made once others were all done
@@ -39,16 +39,17 @@ module _ {B : Type 0} (meaning : B → Meaning) (fills : B → Rule) where
       (performed-append b (take k qs) rest c c' (Err e) first (c', inr (e, refused, refl, refl)))
 
   -- requests that were all done leave the meaning after all of them
-  all_written : (b : B) (qs : List Request) (c : B)
-      → Performed meaning fills b qs c (Ok tt) → meaning c ≡ after_all (meaning b) qs
-  all_written b [] c same = ap meaning same
-  all_written b (q ∷ qs) c (d, inl (done, rest)) = rw (← done.wrote) (all_written d qs c rest)
-  all_written b (q ∷ qs) c (d, inr (e, refused, last, err)) = cc
+  pub all_written : (b : B) (qs : List Request) (c : B) (r : Result (Unit {0}) Fault)
+      → Performed meaning fills b qs c r → AllWritten (meaning b) qs (meaning c) r
+  all_written b [] c (Ok _) same = ap meaning same
+  all_written b (q ∷ qs) c (Ok x) (d, inl (done, rest)) = rw (← done.wrote) (all_written d qs c (Ok x) rest)
+  all_written b (q ∷ qs) c (Ok x) (d, inr (e, refused, last, err)) = cc
+  all_written b qs c (Err e) h = tt
 
   -- no request is left
   pub all_done : (b : B) (qs : List Request) (k : ℕ) (c : B) → length qs ≤ k
       → Performed meaning fills b (take k qs) c (Ok tt) → meaning c ≡ after_all (meaning b) qs
-  all_done b qs k c past first = all_written b qs c (rw (take_all k qs past) at first)
+  all_done b qs k c past first = all_written b qs c (Ok tt) (rw (take_all k qs past) at first)
 
 -- the steps of a run of requests, and its end
 pub ruleset in_turn = (one_done, one_refused, all_done)

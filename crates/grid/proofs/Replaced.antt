@@ -86,6 +86,13 @@ module _ (g : Grid) (ys : List ℕ) (d start n : ℕ) (whole : length ys ≡ n) 
       let room : start + n ≤ 32768 = omega (arith, live_size g.width) in
       rw is (means_after g done all f k (replaced_says (vec_items g.bytes) ys d start n g.whole whole here room g.width f says) same)
 
--- the same function in other words
+-- the same function in other words, of any bytes
+pub stored_in_words : (xs : List ℕ) {ys : List ℕ} {w : ℕ} (d : ℕ) {f : Function} (g : Function)
+    → Held ys w × (meaning_of ys w ≡ writing (meaning_of xs w) d f) → ((s : State) → f s ≡ g s)
+    → Held ys w × (meaning_of ys w ≡ writing (meaning_of xs w) d g)
+stored_in_words xs {ys} {w} d g did same =
+    subst (λ (f : Function). Held ys w × (meaning_of ys w ≡ writing (meaning_of xs w) d f)) (fun_ext same) did
+
+-- and of a grid
 pub in_words : (g : Grid) (d : ℕ) {f : Function} (k : Function) (h : Grid) → Rewrote g d f h → ((s : State) → f s ≡ k s) → Rewrote g d k h
 in_words g d k h did same = subst (λ (f : Function). Rewrote g d f h) (fun_ext same) did
