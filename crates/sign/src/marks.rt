@@ -9,7 +9,7 @@ use board::request::{CODES, Quantifier, SHEETS};
 // Which of the 64 sheets are marked.
 #[derive(Clone, Copy, PartialEq, Eq, Debug)]
 pub(crate) struct Marks {
-    by_sheet: [bool; SHEETS],
+    pub(crate) by_sheet: [bool; SHEETS],
 }
 
 impl Marks {
