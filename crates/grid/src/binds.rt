@@ -44,6 +44,8 @@ impl Grid {
     }
 
     // Puts what the step gives for what another sheet says with the place clear and with it set into the sheet.
+    // Not inlined, so that a call that is refused does not pay for the loops.
+    #[inline(never)]
     fn bind<F: Fn(u8, u8) -> u8>(&mut self, sheet: Sheet, from: Sheet, place: usize, step: F)
         requires places { place < self.old.width }
         requires callable { F.IsAlwaysCallable step }
