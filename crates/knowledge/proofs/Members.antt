@@ -31,6 +31,17 @@ listed_more first bits i n xs l a b h =
     let e : (1 * 2 ^ (v - first)) % 2 ^ 64 ≡ 2 ^ (v - first) = one_shl (v - first) 64 (omega arith) in
     rw e (member_more first bits v n a ∙ (ap (λ (m : Bool). m || eqb n v) h ∙ sym (list_any_more (λ m. eqb n m) xs i 0 l)))
 
+-- both, for every number from the first up
+pub collected_more : (first last bits i : ℕ) (xs : List ℕ) → i < length xs → first ≤ get_or xs i 0 → get_or xs i 0 ≤ last
+    → (all_between first last (take i xs) ≡ true) × ((n : ℕ) → (leb first n && has bits (n - first)) ≡ listed n (take i xs))
+    → (all_between first last (take (i + 1) xs) ≡ true)
+    × ((n : ℕ) → (leb first n && has (bit_or bits (2 ^ (get_or xs i 0 - first))) (n - first)) ≡ listed n (take (i + 1) xs))
+collected_more first last bits i xs l a b h = (
+  all_more first last i xs l a b h.0,
+  λ n. member_more first bits (get_or xs i 0) n a
+      ∙ (ap (λ (m : Bool). m || eqb n (get_or xs i 0)) (h.1 n) ∙ sym (list_any_more (λ m. eqb n m) xs i 0 l)),
+)
+
 -- what one more number changes
 pub ruleset collecting = (nat_tests, all_more, listed_more)
 
