@@ -1,5 +1,6 @@
 // Plain truth tables: what a board must answer and say, worked out state by state from the rules. Nothing of the code
-// under test is used, and the rules' numbers are written out.
+// under test is used but its types, and the rules' numbers are written out.
+use crate::compare::refusal;
 use board::request::{Quantifier, Request};
 use knowledge::fault::{Cause, Fault};
 use std::alloc::{AllocError, Global};
@@ -54,10 +55,10 @@ impl Tables {
     pub fn perform(&mut self, request: Request) -> Result<(), Fault> {
         let sheet = written(request);
         if last_sheet(request) > 63 {
-            return Err(Fault::in_board(Cause::Sheet, sheet));
+            return refusal(Cause::Sheet, sheet);
         }
         if is_misplaced(request, self.width) {
-            return Err(Fault::in_board(Cause::Place, sheet));
+            return refusal(Cause::Place, sheet);
         }
         for (state, value) in self.next.iter_mut().enumerate() {
             *value = written_at(&self.sheets, request, state);
