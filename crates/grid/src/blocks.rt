@@ -39,8 +39,6 @@ impl Grid {
     }
 
     // Puts bit 2 × (left's value) + (right's value) of the code into the sheet.
-    // Not inlined, so that a call that is refused does not pay for the loop.
-    #[inline(never)]
     pub(crate) fn join_sheet(&mut self, sheet: Sheet, left: Sheet, right: Sheet, code: u8)
         ensures { Wrote self.old (Join sheet.number left.number right.number code) self.new }
     {
